@@ -169,7 +169,7 @@ fn decimals<'a>(alloc: Global) -> Result<Arg<'a>, AllocError> {
         .long("decimals")
         .action(ArgAction::SetTrue)
         .help(
-            "Numbers are decimals where one has a point, and all that have one as many digits behind it",
+            "Numbers with a point are decimals, if each has as many digits behind it; without it they are f64",
         )
         .conflicts_with("schema")
 }

@@ -2,8 +2,8 @@
 use crate::error::UnfitLiteral;
 use std::fmt;
 use std::fmt::{Display, Formatter, Write};
-use vx_source::TypeText;
-use vx_tree::{DType, Scalar, Value};
+use vx_source::{TypeText, is_pointed};
+use vx_tree::{DType, Value};
 
 /// The literal, as the text has it, and the type.
 #[derive(Clone, Copy)]
@@ -25,13 +25,16 @@ impl Display for UnfitText<'_> {
 /// What would do in place of the literal.
 pub(crate) fn help_for_unfit(literal: &UnfitLiteral) -> &'static str {
     match (&literal.dtype, literal.scalar.value()) {
-        (DType::Primitive(..), Value::Int(_)) if is_decimal(&literal.scalar) => {
+        (DType::Primitive(..), Value::Utf8(_)) if is_pointed(&literal.scalar) => {
             "what it stands beside is whole numbers: write one without a point, as in x > 5"
         }
         (DType::Primitive(..), Value::Int(_)) => {
             "it takes the type of what it stands beside: say a wider one in the schema, as i64"
         }
         (DType::Primitive(..), _) => "what it stands beside is a number: write one, as in x > 5",
+        (DType::Float(..), _) => {
+            "what it stands beside is floating-point numbers: write a number, as in x > 1.5"
+        }
         (DType::Decimal(..), _) => {
             "what it stands beside is a decimal: write a number that it holds, as in x > 12.50"
         }
@@ -53,9 +56,4 @@ pub(crate) fn help_for_unfit(literal: &UnfitLiteral) -> &'static str {
             "what it stands beside is a list or a struct: write its type, as in [1, 2]::list(i32)"
         }
     }
-}
-
-// Whether it is a number with a point.
-fn is_decimal(scalar: &Scalar) -> bool {
-    matches!(scalar.dtype(), DType::Decimal(..))
 }

@@ -69,7 +69,8 @@ pub struct Guess<'a> {
     pub columns: &'a [ColumnType<'a>],
     /// Whether each name with dots in a header leads to a field of a field.
     pub nested: bool,
-    /// Whether numbers with a point are decimals, where each has as many digits behind it.
+    /// Whether numbers with a point are decimals, where each has as many digits behind it; else they are floating-point
+    /// numbers.
     pub decimals: bool,
 }
 

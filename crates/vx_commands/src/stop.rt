@@ -115,7 +115,7 @@ impl Display for StopMessage<'_> {
             Stop::Numbers(error, texts) => {
                 self.write_error(error, self.expression, f)?;
                 write!(f, "\n  = help: {texts}")?;
-                self.write_decimals(f)
+                self.write_floats(f)
             }
             Stop::Column(error) => self.write_column(error, f),
         }
@@ -155,15 +155,12 @@ impl StopMessage<'_> {
         }
     }
 
-    // What takes numbers with a point as such, unless it is given.
-    fn write_decimals<W: Write>(&self, f: &mut Formatter<W>) -> fmt::Result {
+    // What takes numbers as floating-point numbers that aren't decimals of one scale, where decimals are asked for.
+    fn write_floats<W: Write>(&self, f: &mut Formatter<W>) -> fmt::Result {
         match self.schema {
-            Schema::Guessed(
-                Guess {
-                    decimals: false,
-                    ..
-                },
-            ) => f.write_str(": --decimals takes those with a point as decimals"),
+            Schema::Guessed(Guess { decimals: true, .. }) => {
+                f.write_str(": without --decimals those with a point are floating-point numbers")
+            }
             _ => Ok(()),
         }
     }

@@ -115,6 +115,7 @@ fn write_cell<W: fmt::Write>(value: &Value, f: &mut Formatter<W>) -> fmt::Result
         Value::Null => f.write_str("null"),
         Value::Bool(truth) => truth.fmt(f),
         Value::Int(number) => number.fmt(f),
+        Value::Float(number) => number.fmt(f),
         Value::Utf8(text) => Shown(text.as_str()).fmt(f),
         Value::Binary(bytes) => {
             f.write_str("0x")?;

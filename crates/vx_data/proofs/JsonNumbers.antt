@@ -74,14 +74,14 @@ point_passed false (suc k) n e =
 
 -- ---- decimals
 
-unsigned_passed : (m s : ℕ) → m < 10 ^ 64 → let t = decimal (m / 10 ^ s) ++ point_text s m in
+pub unsigned_passed : (m s : ℕ) → m < 10 ^ 64 → let t = decimal (m / 10 ^ s) ++ point_text s m in
     (option_and_then after_exponent (option_and_then after_fraction (after_whole t)) ≡ Some []) × ((head t == 45) ≡ false)
 unsigned_passed m s h =
     let point = point_passed (s == 0) s m refl in
     let whole = whole_passed (m / 10 ^ s) (point_text s m) (omega (arith, div-le_self m (10 ^ s))) point.1 in
     (ap (λ o. option_and_then after_exponent (option_and_then after_fraction o)) whole.0 ∙ ap (option_and_then after_exponent) point.0, whole.1)
 
-decimal_is_number : (i : ℤ) (s : ℕ) → unsigned_abs i < 10 ^ 64 → IsNumber (decimal_text i s)
+pub decimal_is_number : (i : ℤ) (s : ℕ) → unsigned_abs i < 10 ^ 64 → IsNumber (decimal_text i s)
 unfolding after_number
 decimal_is_number (negsuc n) s h = (unsigned_passed (suc n) s h).0
 decimal_is_number (pos n) s h =

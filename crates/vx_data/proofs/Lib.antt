@@ -3,3 +3,4 @@ pub mod Sizes
 mod Lined
 mod Spelled
 mod JsonNumbers
+mod FloatNumbers

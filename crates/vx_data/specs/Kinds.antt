@@ -1,18 +1,20 @@
 -- The kinds of what stands in a column of a file, by which its type is guessed.
-use Rattle.std.specs.Prelude.{ℕ, ◌+◌, ◌-◌, ◌==◌, ◌&&◌, ◌||◌, Bool, true, false, not, max, List, length, drop, get_or, Option, Some, None, ℤ, nat_le, codes, if◌then◌else◌}
+use Rattle.std.specs.Prelude.{ℕ, ◌+◌, ◌-◌, ◌==◌, ◌&&◌, ◌||◌, Bool, true, false, not, max, List, length, drop, get_or, Option, Some, None, ℤ, is_some, nat_le, codes, if◌then◌else◌}
 use Rattle.std.specs.Char.{is_ascii_digit}
 use Rattle.std.specs.List.{between, list_all, prefix_len}
 use Rattle.std.specs.Option.{unwrap_or}
 use Rattle.std.specs.Str.{bytes_eq}
 use Rattle.vx_dtype.specs.declared.dtype.PType.TheVariants.{I64, U64}
+use Rattle.vx_dtype.specs.declared.float_type.FloatType.TheVariants.{F64}
 use Rattle.vx_dtype.specs.declared.timestamp_type.TimeUnit.{TimeUnit}
 use Rattle.vx_dtype.specs.declared.timestamp_type.TimeUnit.TheVariants.{Microseconds, Nanoseconds}
+use Rattle.vx_floats.specs.Texts.{float_read}
 use Rattle.vx_literals.specs.Decimals.{decimal_read}
 use Rattle.vx_value.specs.Fits.{fits, fits_ptype}
-use Rattle.vx_value.specs.Types.{Name, Atomic, truth, number, decimals, date, timestamp, text, LogicalType, ty, atomic}
+use Rattle.vx_value.specs.Types.{Name, Atomic, truth, number, floating, decimals, date, timestamp, text, LogicalType, ty, atomic}
 use Rattle.vx_value.specs.Values.{int}
 use Rattle.vx_data.specs.declared.kind.Kind.{Kind}
-use Rattle.vx_data.specs.declared.kind.Kind.TheVariants.{Unknown, Truth, Number, Day, Instant, Text}
+use Rattle.vx_data.specs.declared.kind.Kind.TheVariants.{Unknown, Truth, Number, Float, Day, Instant, Text}
 use Rattle.vx_data.specs.declared.kind.Instants.{Instants}
 use Rattle.vx_data.specs.declared.kind.Numbers.{Numbers}
 use Rattle.vx_data.specs.Numbers.{number_said}
@@ -46,6 +48,9 @@ together Unknown b = b
 together a Unknown = a
 together Truth Truth = Truth
 together (Number a) (Number b) = numbers_together (a.signed && b.signed) (a.unsigned && b.unsigned) (max a.whole b.whole) a.places b.places
+together Float Float = Float
+together (Number a) Float = Float
+together Float (Number b) = Float
 together Day Day = Day
 together (Instant a) (Instant b) = if both_or_neither a.zoned b.zoned then instants_kind a.zoned (a.micros && b.micros) (a.nanos && b.nanos) else Text
 together _ _ = Text
@@ -112,13 +117,25 @@ whole_kind whole (Some i) = numbers_kind (fits_ptype i I64) (fits_ptype i U64) w
 abbrev pub places_kind : List ℕ → ℕ → ℕ → Kind
 places_kind s whole places = if nat_le places 38 && says s (ty (atomic (decimals 38 places)) false) then numbers_kind false false whole (Some places) else Text
 
--- a number, whose digits have so many before the point; one with a point is a text unless decimals are told
+-- whether the byte may stand in a number: a digit, a point, or an exponent's letter or sign
+abbrev pub in_number : ℕ → Bool
+in_number b = is_ascii_digit b || ((b == 46) || ((b == 101) || ((b == 69) || ((b == 43) || (b == 45)))))
+
+-- whether a digit stands in front, and behind the point, if there is one
+abbrev pub has_digits : List ℕ → ℕ → Bool
+has_digits ds k = is_ascii_digit (get_or ds 0 0) && ((k == length ds) || is_ascii_digit (get_or ds (k + 1) 0))
+
+-- a number with a point or an exponent, whose digits have so many bytes before the point
+abbrev pub float_kind : List ℕ → List ℕ → ℕ → Kind
+float_kind s ds k = if has_digits ds k && (list_all in_number ds && is_some (float_read F64 s)) then Float else Text
+
+-- a number, whose digits have so many before the point; one that isn't whole is a floating-point number unless decimals are told
 abbrev digits_kind : Bool → List ℕ → List ℕ → ℕ → Kind
 digits_kind told s ds k =
     if not (is_plain ds) then Text
-    else if k == length ds then whole_kind (whole_digits ds k) (decimal_read 0 s)
-    else if told then places_kind s (whole_digits ds k) (length ds - k - 1)
-    else Text
+    else if list_all is_ascii_digit ds then whole_kind (whole_digits ds k) (decimal_read 0 s)
+    else if told then places_kind s (whole_digits ds k) (length ds - (k + 1))
+    else float_kind s ds k
 
 abbrev pub number_kind : Bool → List ℕ → Kind
 number_kind told s = digits_kind told s (unsigned_part s) (before_point (unsigned_part s))
@@ -142,6 +159,7 @@ numbers_type signed unsigned (Some p) = if nat_le p 38 then decimals 38 p else t
 abbrev pub kind_type : Kind → Atomic
 kind_type Truth = truth
 kind_type (Number n) = numbers_type n.signed n.unsigned n.places
+kind_type Float = floating F64
 kind_type Day = date
 kind_type (Instant i) = timestamp (if i.micros then Microseconds else Nanoseconds) (zone i.zoned)
 kind_type _ = text

@@ -14,7 +14,7 @@ pub struct Guessing<'a> {
     /// is refused then.
     pub nested: bool,
     /// Whether numbers are `decimal(38, s)` of which one has a point, and each that has one has s digits behind it. 38 digits
-    /// leave room for greater numbers in later records.
+    /// leave room for greater numbers in later records. Else such numbers are `f64`, as those with an exponent are.
     pub decimals: bool,
 }
 

@@ -10,8 +10,10 @@ pub enum Kind {
     Unknown,
     /// Truth values.
     Truth,
-    /// Numbers.
+    /// Whole numbers and decimals.
     Number(Numbers),
+    /// Numbers of which one has a point or an exponent, where decimals aren't told.
+    Float,
     /// Days.
     Day,
     /// Instants.
@@ -53,6 +55,9 @@ impl Kind {
             (Kind::Unknown, kind) | (kind, Kind::Unknown) => kind,
             (Kind::Truth, Kind::Truth) => Kind::Truth,
             (Kind::Number(numbers), Kind::Number(others)) => numbers.and(others),
+            (Kind::Float, Kind::Float | Kind::Number(_)) | (Kind::Number(_), Kind::Float) => {
+                Kind::Float
+            }
             (Kind::Day, Kind::Day) => Kind::Day,
             (Kind::Instant(instants), Kind::Instant(others)) => instants.and(others),
             _ => Kind::Text,

@@ -1,5 +1,5 @@
 // What tells the kind of a text, and the type of a kind.
-ghost use Rattle.std.specs.Prelude.{◌≡◌, ◌≤◌, IfOk, Some, codes, length, true, false};
+ghost use Rattle.std.specs.Prelude.{◌≡◌, ◌≤◌, IfOk, Some, codes, get_or, length, true, false};
 ghost use Rattle.std.specs.Char.{is_ascii_digit};
 ghost use Rattle.std.specs.Coded.{Coded-set};
 ghost use Rattle.std.specs.List.{list_all};
@@ -13,19 +13,20 @@ ghost use Rattle.vx_literals.specs.Decimals.{decimal_read};
 ghost use Rattle.vx_value.specs.Fits.{fits_ptype};
 ghost use Rattle.vx_value.specs.Views.{type_of};
 ghost use Rattle.vx_data.specs.declared.kind.Kind.TheVariants.{Instant, Number};
-ghost use Rattle.vx_data.specs.Kinds.{before_point, cell_kind, is_fine, is_plain, kind_type, moment, moment_kind, number_kind, numbers_type, places_kind, says, text_kind, unsigned_part, whole_digits, whole_kind};
+ghost use Rattle.vx_data.specs.Kinds.{before_point, cell_kind, float_kind, has_digits, in_number, is_fine, is_plain, kind_type, moment, moment_kind, number_kind, numbers_type, places_kind, says, text_kind, unsigned_part, whole_digits, whole_kind};
 
 use crate::kind::{Instants, Kind, Numbers};
 use crate::numbers::number_said;
 use std::alloc::{AllocError, Global};
 use std::sync::ArcStr;
+use vx_floats::read_float;
 use vx_literals::read_decimal;
-use vx_types::{DType, DecimalType, Nullability, PType, TimeUnit, TimestampType, Value};
+use vx_types::{DType, DecimalType, FloatType, Nullability, PType, TimeUnit, TimestampType, Value};
 
 /// The kinds that are told of texts, and their types.
 #[derive(Debug, Drop)]
 pub struct Kinds {
-    /// Whether numbers with a point are told from texts.
+    /// Whether numbers with a point are decimals; else they are floating-point numbers, and so are those with an exponent.
     pub decimals: bool,
     instant: DType,
     fine_instant: DType,
@@ -38,7 +39,7 @@ pub struct Kinds {
 }
 
 impl Kinds {
-    /// All kinds; numbers with a point are texts unless decimals are told.
+    /// All kinds; numbers with a point are floating-point numbers unless decimals are told.
     pub fn new(alloc: Global, decimals: bool) -> Result<Kinds, AllocError>
         ensures { IfOk result (λ kinds. kinds.decimals ≡ decimals) }
     {
@@ -74,12 +75,12 @@ impl Kinds {
         }
         let before = before_point(digits);
         let whole = whole_digits(digits, before);
-        if before == digits.len() {
+        if are_digits(digits) {
             whole_kind(text, whole)
         } else if self.decimals {
-            places_kind(text, whole, digits.len() - before - 1)
+            places_kind(text, whole, digits.len().saturating_sub(before + 1))
         } else {
-            Kind::Text
+            float_kind(text, digits, before)
         }
     }
 
@@ -103,6 +104,7 @@ impl Kinds {
         Ok(match kind {
             Kind::Truth => DType::Bool(nullability),
             Kind::Number(numbers) => numbers_type(numbers, nullability),
+            Kind::Float => DType::Float(FloatType::F64, nullability),
             Kind::Day => DType::Date(nullability),
             Kind::Instant(instants) => self.moment(instants).clone()?.with_nullability(nullability),
             Kind::Unknown | Kind::Text => DType::Utf8(nullability),
@@ -258,6 +260,50 @@ fn places_kind(text: &str, whole: usize, places: usize) -> Kind
     } else {
         Kind::Text
     }
+}
+
+// The kind of a number with a point or an exponent, whose digits have so many bytes before the point, and of any other text.
+fn float_kind(text: &str, digits: &[u8], before: usize) -> Kind
+    requires { before ≤ length digits.now }
+    ensures { result ≡ float_kind text.now digits.now before }
+{
+    if has_digits(digits, before)
+        && are_in_number(digits)
+        && read_float(text.as_bytes(), FloatType::F64).is_some()
+    {
+        Kind::Float
+    } else {
+        Kind::Text
+    }
+}
+
+// Whether a digit stands in front, and behind the point, if there is one.
+fn has_digits(digits: &[u8], before: usize) -> bool
+    requires { before ≤ length digits.now }
+    ensures { result ≡ has_digits digits.now before }
+{
+    is_digit_at(digits, 0) && (before == digits.len() || is_digit_at(digits, before + 1))
+}
+
+// Whether a digit stands at that place.
+fn is_digit_at(bytes: &[u8], place: usize) -> bool
+    ensures { result ≡ is_ascii_digit (get_or bytes.now place 0) }
+{
+    place < bytes.len() && bytes[place].is_ascii_digit()
+}
+
+// Whether each byte may stand in a number: a digit, a point, or an exponent's letter or sign.
+fn are_in_number(bytes: &[u8]) -> bool
+    ensures { result ≡ list_all in_number bytes.now }
+{
+    bytes.iter().all(|byte| {
+        byte.is_ascii_digit()
+            || *byte == b'.'
+            || *byte == b'e'
+            || *byte == b'E'
+            || *byte == b'+'
+            || *byte == b'-'
+    })
 }
 
 // The narrowest type of numbers.

@@ -1,7 +1,10 @@
 // Numbers of types by their texts.
 ghost use Rattle.std.specs.Prelude.{◌≡◌, IfOk, Some, string_bytes};
 ghost use Rattle.std.specs.Fmt.{WritesOnOk};
-ghost use Rattle.vx_value.specs.Views.{type_of};
+ghost use Rattle.std.specs.Option.{option_map};
+ghost use Rattle.vx_floats.specs.Texts.{float_read, float_text};
+ghost use Rattle.vx_value.specs.Types.{float};
+ghost use Rattle.vx_value.specs.Views.{type_of, value_of};
 ghost use Rattle.vx_data.specs.Numbers.{is_dated, number_said, number_text};
 
 use crate::cells::whole_of;
@@ -9,11 +12,12 @@ use crate::fault::{Fault, misread};
 use std::alloc::{AllocError, Global};
 use std::fmt;
 use std::fmt::{Display, Formatter, Write};
+use vx_floats::read_float;
 use vx_literals::{
     has_day_text, has_instant_text, read_day, read_decimal, read_instant, write_day, write_decimal,
     write_instant,
 };
-use vx_types::{DType, PType, Value};
+use vx_types::{DType, Float, FloatType, Nullability, PType, Value};
 
 // The text of a number of a type.
 #[derive(Clone, Copy)]
@@ -49,6 +53,13 @@ pub fn number_text(alloc: Global, number: i128, dtype: &DType) -> Result<String,
     NumberText { number, dtype }.to_string(alloc)
 }
 
+/// The text of a floating-point number.
+pub fn float_text(alloc: Global, float: Float) -> Result<String, AllocError>
+    ensures { IfOk result (λ text. string_bytes text ≡ float_text float) }
+{
+    float.to_string(alloc)
+}
+
 /// Whether the number is a day or an instant of the years 1 to 9999, whose text has its day of the calendar.
 pub fn is_dated(number: i128, dtype: &DType) -> bool
     ensures { result ≡ is_dated number (type_of dtype.now) }
@@ -80,6 +91,22 @@ pub fn number_counted(digits: &str, dtype: &DType) -> Option<i128> {
         DType::Date(_) => whole_of(digits, PType::I32),
         DType::Timestamp(_, _) => whole_of(digits, PType::I64),
         _ => number_said(digits, dtype),
+    }
+}
+
+/// The floating-point number of that format that the text says: the one that lies nearest to a number in digits, `nan`, `inf`,
+/// `-inf`, or the one with the bits behind `0x`. Refuses a text that says none, with the text.
+pub fn float_value(
+    alloc: Global,
+    text: &str,
+    format: FloatType,
+    nullability: Nullability,
+) -> Result<Value, Fault>
+    ensures { IfOk result (λ value. Some (value_of value) ≡ option_map float (float_read format text.now)) }
+{
+    match read_float(text.as_bytes(), format) {
+        Some(number) => Ok(Value::Float(number)),
+        None => Err(misread(alloc, text, &DType::Float(format, nullability))),
     }
 }
 

@@ -3,7 +3,7 @@ use crate::format::Format;
 use crate::numbers::Numbers;
 use std::alloc::{AllocError, Global};
 
-const FLAT: [&str; 20] = [
+const FLAT: [&str; 22] = [
     "bool",
     "u8",
     "u16",
@@ -13,6 +13,8 @@ const FLAT: [&str; 20] = [
     "i16",
     "i32",
     "i64",
+    "f32",
+    "f64",
     "utf8",
     "binary",
     "decimal(10, 2)",

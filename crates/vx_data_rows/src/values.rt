@@ -2,7 +2,7 @@
 use crate::numbers::Numbers;
 use std::alloc::{AllocError, Global};
 use vx_literals::{power_of_ten, units_a_second};
-use vx_types::{DType, DecimalType, PType, StructFields, TimeUnit, Value};
+use vx_types::{DType, DecimalType, Float, FloatType, PType, StructFields, TimeUnit, Value};
 
 const TEXTS: [&str; 16] = [
     "",
@@ -45,6 +45,7 @@ pub fn value(
         DType::Struct(fields, _) => values(room - 1, alloc, fields, numbers),
         DType::Bool(_) => Ok(Value::Bool(numbers.below(2) == 0)),
         DType::Primitive(ptype, _) => Ok(Value::Int(number(*ptype, numbers))),
+        DType::Float(format, _) => Ok(Value::Float(float(*format, numbers))),
         DType::Decimal(decimal, _) => Ok(Value::Int(units(*decimal, numbers))),
         DType::Date(_) => Ok(Value::Int(day(numbers))),
         DType::Timestamp(timestamp, _) => Ok(Value::Int(instant(timestamp.unit, numbers))),
@@ -89,6 +90,49 @@ fn number(ptype: PType, numbers: &mut Numbers) -> i128 {
         1 => greatest(ptype),
         _ => i128::from(numbers.below(128)),
     }
+}
+
+// A floating-point number of the format.
+fn float(format: FloatType, numbers: &mut Numbers) -> Float {
+    match format {
+        FloatType::F32 => Float::from_f32_bits(bits_of_32(numbers)),
+        FloatType::F64 => Float::from_f64_bits(bits_of_64(numbers)),
+    }
+}
+
+// The bits of a zero, of one and a half, of an infinity or of NaN, or any bits.
+fn bits_of_32(numbers: &mut Numbers) -> u32 {
+    match numbers.below(12) {
+        0 => 0,
+        1 => 0x8000_0000,
+        2 => 0x3fc0_0000,
+        3 => 0x7f80_0000,
+        4 => 0xff80_0000,
+        5 => 0x7fc0_0000,
+        _ => (any_bits(numbers) >> 32) as u32,
+    }
+}
+
+// The bits of a zero, of one and a half, of an infinity or of NaN, or any bits.
+fn bits_of_64(numbers: &mut Numbers) -> u64 {
+    match numbers.below(12) {
+        0 => 0,
+        1 => 0x8000_0000_0000_0000,
+        2 => 0x3ff8_0000_0000_0000,
+        3 => 0x7ff0_0000_0000_0000,
+        4 => 0xfff0_0000_0000_0000,
+        5 => 0x7ff8_0000_0000_0000,
+        _ => any_bits(numbers),
+    }
+}
+
+// Any 64 bits.
+fn any_bits(numbers: &mut Numbers) -> u64 {
+    let high = numbers.below(0x1000);
+    let middle = numbers.below(0x400_0000);
+    let low = numbers.below(0x400_0000);
+    let most = high.wrapping_mul(0x400_0000).wrapping_add(middle);
+    most.wrapping_mul(0x400_0000).wrapping_add(low)
 }
 
 // The least or the greatest decimal of the type, or a digit on either side of zero, all by their units.

@@ -16,11 +16,12 @@ use Rattle.vx_dtype.specs.declared.error.VortexError.{VortexError}
 use Rattle.vx_dtype.specs.declared.error.VortexError.TheVariants.{AddOverflow, CastNull, BadFill}
 use Rattle.vx_dtype.proofs.Lists.{in_left, in_right}
 use Rattle.vx_value.specs.Fits.{IsBatch, fits}
-use Rattle.vx_value.specs.Types.{truth, number, decimals, date, timestamp, text, octets, LogicalType, ty, atomic, Datum, bool, int, utf8, bytes, is_null_datum}
+use Rattle.vx_value.specs.Types.{truth, number, floating, decimals, date, timestamp, text, octets, LogicalType, ty, atomic, Datum, bool, int, float, utf8, bytes, is_null_datum}
 use Rattle.vx_fn.specs.Faults.{node_fault, overflows, misfits, differs, fill_of, is_bad_fill, some_differ, when}
 use Rattle.vx_fn.specs.Functions.{Function, Typing, binary, adds, cast, fill_null, fn_type, is_atomic, needs}
 use Rattle.vx_fn.specs.Values.{order}
 use Rattle.vx_fn.proofs.Fills.{none_differ}
+use Rattle.vx_prune_bounds.proofs.Floats.{float_total}
 use Rattle.vx_tree.specs.Faults.{first_fault, each_fault}
 use Rattle.vx_tree.specs.Meaning.{value, values}
 use Rattle.vx_tree.specs.Trees.{BoundTree, scope, node, BoundTrees, no_bound, bound, node_type, node_types, WellTyped, EachWellTyped, Over, EachOver}
@@ -55,6 +56,7 @@ none_of_them p f (x ∷ xs) none = or_from _ _ (none x (inl refl)) (none_of_them
 abbrev AreAlike : Datum → Datum → Type 0
 AreAlike (bool a) (bool b) = Unit {0}
 AreAlike (int i) (int j) = Unit {0}
+AreAlike (float x) (float y) = Unit {0}
 AreAlike (utf8 s) (utf8 t) = Unit {0}
 AreAlike (bytes s) (bytes t) = Unit {0}
 AreAlike _ _ = ⊥
@@ -62,10 +64,12 @@ AreAlike _ _ = ⊥
 ordered_alike : (u v w : Datum) → AreAlike u v → AreAlike u w → order u v ≡ Equal → order u w ≡ order v w
 ordered_alike (bool a) (bool b) (bool c) p q e = bool_cmp_total.congr a b c e
 ordered_alike (int a) (int b) (int c) p q e = int_cmp_total.congr a b c e
+ordered_alike (float a) (float b) (float c) p q e = float_total.congr a b c e
 ordered_alike (utf8 a) (utf8 b) (utf8 c) p q e = nat_list_cmp_total.congr a b c e
 ordered_alike (bytes a) (bytes b) (bytes c) p q e = nat_list_cmp_total.congr a b c e
 ordered_alike (bool a) (bool b) _ p q e = absurd q
 ordered_alike (int a) (int b) _ p q e = absurd q
+ordered_alike (float a) (float b) _ p q e = absurd q
 ordered_alike (utf8 a) (utf8 b) _ p q e = absurd q
 ordered_alike (bytes a) (bytes b) _ p q e = absurd q
 ordered_alike _ _ _ p q e = absurd p
@@ -85,6 +89,7 @@ itself v = (or_parts _ _ (none_differ v (v ∷ v ∷ []))).0
 alike : (t : LogicalType) (v w : Datum) → is_atomic t ≡ true → fits v t ≡ true → fits w t ≡ true → is_null_datum v ≡ false → is_null_datum w ≡ false → AreAlike v w
 alike (ty (atomic truth) n) (bool a) (bool b) at f g m k = tt
 alike (ty (atomic (number p)) n) (int a) (int b) at f g m k = tt
+alike (ty (atomic (floating f)) n) (float a) (float b) at g h m k = tt
 alike (ty (atomic (decimals p s)) n) (int a) (int b) at f g m k = tt
 alike (ty (atomic date) n) (int a) (int b) at f g m k = tt
 alike (ty (atomic (timestamp u z)) n) (int a) (int b) at f g m k = tt

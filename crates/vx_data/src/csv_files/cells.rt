@@ -3,11 +3,11 @@ use crate::cells::{bytes_of, text_of, whole_of};
 use crate::csv_files::plan::{FieldPlan, Plan};
 use crate::expected::Expected;
 use crate::fault::Fault;
-use crate::numbers::{number_counted, number_said, number_value};
+use crate::numbers::{float_value, number_counted, number_said, number_value};
 use csv::ByteRecord;
 use std::alloc::Global;
 use std::str;
-use vx_types::{DType, PType, Value};
+use vx_types::{DType, Float, FloatType, PType, Value};
 
 /// The cells that a record has of a type.
 #[derive(Clone, Copy)]
@@ -56,6 +56,7 @@ impl<'a> Found<'a> {
         match (dtype, text) {
             (DType::Bool(_), Some(b"true" | b"false")) => true,
             (DType::Primitive(ptype, _), Some(text)) => are_few_digits(text, *ptype),
+            (DType::Float(_, _), Some(text)) => is_short_decimal(text),
             (DType::Utf8(_), Some(_)) => self.is_ascii,
             _ => false,
         }
@@ -131,6 +132,8 @@ fn stand_in(alloc: Global, plan: &Plan) -> Value {
             | DType::Decimal(_, _)
             | DType::Date(_)
             | DType::Timestamp(_, _) => Value::Int(0),
+            DType::Float(FloatType::F32, _) => Value::Float(Float::F32(0)),
+            DType::Float(FloatType::F64, _) => Value::Float(Float::F64(0)),
             DType::Utf8(_) => Value::Utf8(String::new(alloc)),
             _ => Value::Null,
         },
@@ -147,6 +150,32 @@ fn are_few_digits(text: &[u8], ptype: PType) -> bool {
         PType::U64 | PType::I64 => 18,
     };
     !text.is_empty() && text.len() <= few && text.iter().all(|byte| byte.is_ascii_digit())
+}
+
+// Whether the text is of digits, perhaps with a minus before them and a point between them, as few as a number of each format
+// may have.
+fn is_short_decimal(text: &[u8]) -> bool {
+    let digits = match text {
+        [b'-', digits @ ..] => digits,
+        _ => text,
+    };
+    let (Some(first), Some(last)) = (digits.first(), digits.last()) else {
+        return false;
+    };
+    first.is_ascii_digit() && last.is_ascii_digit() && digits.len() <= 18 && has_one_point(digits)
+}
+
+// Whether the bytes are digits, but for one point or none.
+fn has_one_point(bytes: &[u8]) -> bool {
+    let mut pointed = false;
+    for byte in bytes {
+        if *byte == b'.' && !pointed {
+            pointed = true;
+        } else if !byte.is_ascii_digit() {
+            return false;
+        }
+    }
+    true
 }
 
 /// Whether all bytes are ASCII.
@@ -185,6 +214,7 @@ fn text_value(alloc: Global, dtype: &DType, text: &str) -> Result<Value, Fault> 
             Some(number) => Ok(Value::Int(number)),
             None => Err(Fault::new(alloc, Expected::Whole(*ptype))),
         },
+        DType::Float(format, nullability) => float_value(alloc, text, *format, *nullability),
         DType::Utf8(_) => text_of(alloc, text),
         DType::Binary(_) => bytes_of(alloc, text),
         DType::Decimal(_, _) | DType::Date(_) | DType::Timestamp(_, _) => {

@@ -21,13 +21,13 @@ use vx_types::{DType, FieldName, FieldNames, Nullability, StructFields, VortexRe
 /// The narrowest type of the first 1,000 records behind the header, fewer where there are no more: a struct of its names in
 /// their order, in which a name with dots leads to a field of a field, if in all such names the dots stand between words of
 /// letters, digits and `_`, of which the first doesn't begin with a digit, and no name is both a cell and the way to others;
-/// else each is a field of that name. A cell that is always `true` or `false` is
-/// `bool`; one that is always a whole number as it is written, `i64`, or `u64` where one is above the range of `i64`; one
-/// that is always a day, `date`; one that is always an instant, `timestamp(us, "UTC")` where each has a zone or an offset and
-/// `timestamp(us)` where none has, in `ns` where one has more than six digits behind the second's point; any
-/// other `utf8`, also one that has no text at all. It is nullable where some record lacks it or has an empty one; no struct
-/// is. Refuses a file without a header, a name that stands there twice, a cell that is no text in UTF-8, a record of more cells than the header, each with its line; with the reader's error; and with
-/// `OutOfMemory`.
+/// else each is a field of that name. A cell that is always `true` or `false` is `bool`; one that is always a whole number
+/// as it is written, `i64`, or `u64` where one is above the range of `i64`; one that is always a number, of which one has a
+/// point or an exponent, `f64`; one that is always a day, `date`; one that is always an instant, `timestamp(us, "UTC")`
+/// where each has a zone or an offset and `timestamp(us)` where none has, in `ns` where one has more than six digits behind
+/// the second's point; any other `utf8`, also one that has no text at all. It is nullable where some record lacks it or has
+/// an empty one; no struct is. Refuses a file without a header, a name that stands there twice, a cell that is no text in
+/// UTF-8, a record of more cells than the header, each with its line; with the reader's error; and with `OutOfMemory`.
 pub fn infer_csv_type<R: Read + Drop>(alloc: Global, reader: R) -> Result<DType, DataError> {
     infer_csv_type_with(alloc, CsvFormat::default(), reader)
 }

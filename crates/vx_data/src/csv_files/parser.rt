@@ -102,7 +102,8 @@ impl CsvParser {
 
     /// The value that the record on that line is: a cell that is empty, or that the record lacks at its end, is null where its
     /// type is nullable, and a struct all of whose cells are so where that is; else `true`, `false`, a whole number of the
-    /// type's range, a decimal without an exponent, a day (`2024-01-31`) or an instant (`2024-01-31T10:15:30.25Z`, without the
+    /// type's range, a floating-point number (the nearest of the format, `nan`, `inf`, `-inf`, or `0x` and the digits of its
+    /// bits), a decimal without an exponent, a day (`2024-01-31`) or an instant (`2024-01-31T10:15:30.25Z`, without the
     /// `Z` where the type has no zone) or such as a whole number of days or units since 1970, a text, or bytes as `0x` and two
     /// digits each. Digits of a decimal beyond its scale, and of a second beyond the unit, are zeros. Refuses with the line, the path of the field, and what is
     /// expected there, and with `OutOfMemory`.

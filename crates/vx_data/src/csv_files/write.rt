@@ -4,7 +4,7 @@ use crate::csv_files::plan::{Cells, FieldPlan, Plan};
 use crate::error::WriteError;
 use crate::expected::Expected;
 use crate::fault::Fault;
-use crate::numbers::number_text;
+use crate::numbers::{float_text, number_text};
 use csv::{ByteRecord, Error, ErrorKind, Writer};
 use std::alloc::{AllocError, Global};
 use std::io::Write;
@@ -76,8 +76,11 @@ impl<W: Write + Drop> CsvWriter<W> {
 }
 
 /// Writes the column as a CSV file: a header with the names of the cells, of a field of a field with a dot between the names,
-/// and `value` where the type is no struct; then each row as a record, null as an empty cell, a decimal with all places of its
-/// scale, a day and an instant as a text, or as its number outside the years 1 to 9999, bytes as `0x` and two digits each. It is read back as the column by its type. Refuses what `CsvWriter` refuses. Time is linear in the column.
+/// and `value` where the type is no struct; then each row as a record, null as an empty cell, a floating-point number with as
+/// few digits behind its point as tell it, or as `nan`, `inf`, `-inf`, or `0x` and its bits where it is very large or very
+/// small, a decimal with all places of its scale, a day and an instant as a text, or as its number outside the years 1 to
+/// 9999, bytes as `0x` and two digits each. It is read back as the column by its type. Refuses what `CsvWriter` refuses.
+/// Time is linear in the column.
 pub fn write_csv<W: Write + Drop>(
     alloc: Global,
     column: &Column,
@@ -171,6 +174,7 @@ fn put_cell(
         Value::Bool(true) => put_text("true", record),
         Value::Bool(false) => put_text("false", record),
         Value::Int(number) => put_text(number_text(alloc, *number, dtype)?.as_str(), record),
+        Value::Float(number) => put_text(float_text(alloc, *number)?.as_str(), record),
         Value::Utf8(text) => {
             if text.is_empty() && dtype.is_nullable() {
                 return Err(Fault::new(alloc, Expected::NonEmptyText));

@@ -13,11 +13,10 @@ use std::io::BufRead;
 use vx_types::DType;
 
 /// The narrowest type of the first 1,000 records, fewer where there are no more: `bool`, `i64`, `u64` where a number is
-/// above the range of `i64`, `date` and `timestamp` of texts as in CSV, `utf8`, a list for an array, a struct for an object
-/// with the fields in the order in which they come first. Numbers are `utf8` where neither type has them all, as one with a
-/// point unless decimals are guessed, and where there were texts, too
-/// (`JsonFormat` says how they are read). Nullable is what was null in some record, and a field that some record of
-/// its struct doesn't have.
+/// above the range of `i64`, `f64` where a number has a point or an exponent, `date` and `timestamp` of texts as in CSV,
+/// `utf8`, a list for an array, a struct for an object with the fields in the order in which they come first. Numbers are
+/// `utf8` where no type has them all, and where there were texts, too (`JsonFormat` says how they are read). Nullable is what
+/// was null in some record, and a field that some record of its struct doesn't have.
 /// What has no type by its values, as it was always null or is the item of a list that was always empty, is `utf8`; so is
 /// the whole type where there is no record. Refuses with the line, the path of the field, and what is expected there:
 /// the first value of another kind than those before, more than 200 arrays

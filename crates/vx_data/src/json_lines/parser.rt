@@ -8,7 +8,7 @@ use crate::fault::{Fault, misfit};
 use crate::json_lines::draft::{Draft, named, place_of};
 use crate::json_lines::format::JsonFormat;
 use crate::json_lines::tokens::{DEPTH, end, next_name, no_json, reader_of, skip};
-use crate::numbers::{number_counted, number_said, number_value};
+use crate::numbers::{float_value, number_counted, number_said, number_value};
 use crate::other_fields::OtherFields;
 use json::{Reader, Scratch, Token};
 use std::alloc::Global;
@@ -56,8 +56,10 @@ impl JsonParser {
     }
 
     /// The value of that type that the record on that line is: null, true, false, whole numbers of the type's range,
-    /// decimals as numbers without an exponent or as texts of such, days and instants as texts (`2024-01-31`,
-    /// `2024-01-31T10:15:30.25Z`, without the `Z` where the type has no zone) or as whole numbers of days or units since 1970,
+    /// floating-point numbers as numbers or as texts of such, of which the nearest of the format is read, or as the texts
+    /// `nan`, `inf`, `-inf`, or `0x` and the digits of their bits, decimals as numbers without an exponent or as texts of such,
+    /// days and instants as texts (`2024-01-31`, `2024-01-31T10:15:30.25Z`, without the `Z` where the type has no zone) or as
+    /// whole numbers of days or units since 1970,
     /// texts, bytes as texts of `0x` and two digits each, lists as arrays, structs as objects, whose fields may come in
     /// any order, and be absent where they are nullable. Digits of a decimal beyond its scale, and of a second beyond the unit,
     /// are zeros. Refuses with the line, the path of the field, and what is
@@ -107,6 +109,9 @@ fn flat_value(reading: Reading, dtype: &DType, token: Token<'_>) -> Result<Value
             Some(number) => Ok(Value::Int(number)),
             None => Err(mismatch(alloc, dtype)),
         },
+        (DType::Float(format, nullability), Token::Number(text) | Token::String(text)) => {
+            float_value(alloc, text, *format, *nullability)
+        }
         (DType::Utf8(_), Token::String(text)) => text_of(alloc, text),
         (DType::Utf8(_), Token::Number(text)) if reading.number_texts => text_of(alloc, text),
         (DType::Binary(_), Token::String(text)) => bytes_of(alloc, text),
@@ -138,7 +143,7 @@ fn mismatch(alloc: Global, dtype: &DType) -> Fault {
         DType::List(_, _) => Expected::List,
         DType::FixedSizeList(_, size, _) => Expected::Items(*size),
         DType::Struct(_, _) => Expected::Struct,
-        DType::Decimal(_, _) | DType::Date(_) | DType::Timestamp(_, _) => {
+        DType::Float(_, _) | DType::Decimal(_, _) | DType::Date(_) | DType::Timestamp(_, _) => {
             return misfit(alloc, dtype);
         }
     };

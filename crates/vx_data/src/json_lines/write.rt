@@ -1,30 +1,33 @@
 // Rows written as JSON lines.
-ghost use Rattle.std.specs.Prelude.{◌≡◌, ◌++◌, ◌∷◌, [], IfOk, OnOk};
+ghost use Rattle.std.specs.Prelude.{◌≡◌, ◌==◌, ◌++◌, ◌∷◌, [], IfOk, OnOk};
 ghost use Rattle.std.specs.Fmt.{signed_decimal};
 ghost use Rattle.std.specs.Io.KnownBytes.{Appends};
+ghost use Rattle.std.specs.List.{list_any};
 ghost use Rattle.json.specs.Token.{begin_array, begin_object, end_array, end_object, number};
 ghost use Rattle.vx_value.specs.Types.{list_of, struct_of};
 ghost use Rattle.vx_value.specs.Views.{data_view, fields_of, type_of, value_of};
-ghost use Rattle.vx_data.specs.Lines.{field_tokens, item_tokens, json_line, json_lines, number_token, value_tokens};
+ghost use Rattle.vx_data.specs.Lines.{field_tokens, float_token, item_tokens, json_line, json_lines, number_token, value_tokens};
 
 use crate::cells::hex_text;
 use crate::error::WriteError;
 use crate::expected::Expected;
 use crate::fault::Fault;
 use crate::json_lines::distinct::check_names;
-use crate::numbers::{is_dated, number_text};
+use crate::numbers::{float_text, is_dated, number_text};
 use json::Writer;
 use std::alloc::Global;
 use std::io::Write;
-use vx_types::{Column, DType, StructFields, Value};
+use vx_types::{Column, DType, Float, StructFields, Value};
 
 // Lines are handed to the writer so many bytes at a time.
 const BLOCK: usize = 65_536;
 
-/// Writes each row as a line of JSON, which is read back as that row by the column's type: a decimal as a number with all
-/// places of its scale, a day and an instant as a text, or as its number outside the years 1 to 9999, bytes as `0x` and their
-/// digits, and each field of a struct under its name, also where it is null. Refuses a type with a struct of which two fields have one name, as row 0 and with the
-/// path, before anything is written; and with the writer's error and with `OutOfMemory`. Time is linear in the column.
+/// Writes each row as a line of JSON, which is read back as that row by the column's type: a floating-point number as a number
+/// with as few digits behind its point as tell it, or as a text (`nan`, `inf`, `-inf`, and `0x` with its bits where it is very
+/// large or very small), a decimal as a number with all places of its scale, a day and an instant as a text, or as its number
+/// outside the years 1 to 9999, bytes as `0x` and their digits, and each field of a struct under its name, also where it is
+/// null. Refuses a type with a struct of which two fields have one name, as row 0 and with the path, before anything is
+/// written; and with the writer's error and with `OutOfMemory`. Time is linear in the column.
 pub fn write_json_lines<W: Write>(
     alloc: Global,
     column: &Column,
@@ -75,6 +78,7 @@ fn write_value(
         Value::Null => Ok(writer.null()?),
         Value::Bool(truth) => Ok(writer.boolean(*truth)?),
         Value::Int(number) => write_number(*number, dtype, alloc, writer),
+        Value::Float(number) => write_float(*number, alloc, writer),
         Value::Utf8(text) => Ok(writer.string(text.as_str())?),
         Value::Binary(bytes) => Ok(writer.string(hex_text(alloc, bytes.as_slice())?.as_str())?),
         Value::List(items) => write_list(items.as_slice(), dtype, alloc, writer),
@@ -98,6 +102,27 @@ fn write_number(
         DType::Decimal(_, _) => Ok(writer.number(number_text(alloc, number, dtype)?.as_str())?),
         _ => write_whole(alloc, number, writer),
     }
+}
+
+// Writes a number with a point as a number, and what has none as a text: NaN, an infinity, and a number by its bits.
+fn write_float(float: Float, alloc: Global, writer: &mut Writer) -> Result<(), Fault>
+    ensures before { writer.new.before ≡ writer.old.before }
+    ensures tokens { OnOk result (writer.new.tokens ≡ writer.old.tokens ++ float_token float ∷ []) }
+{
+    let shown = float_text(alloc, float)?;
+    let text = shown.as_str();
+    if has_point(text) {
+        Ok(writer.number(text)?)
+    } else {
+        Ok(writer.string(text)?)
+    }
+}
+
+// Whether a point stands in the text.
+fn has_point(text: &str) -> bool
+    ensures { result ≡ list_any (λ b. b == 46) text.now }
+{
+    text.as_bytes().iter().any(|byte| *byte == b'.')
 }
 
 fn write_whole(alloc: Global, whole: i128, writer: &mut Writer) -> Result<(), Fault>
