@@ -16,7 +16,7 @@ CHUNKS, ROWS = 16, 50_000
 
 
 def statistics_of(column, nulls=0):
-    return {"nulls": nulls, "least": int(column.min()), "greatest": int(column.max())}
+    return {"nulls": nulls, "least": column.min().item(), "greatest": column.max().item()}
 
 
 def main(folder):
@@ -27,7 +27,7 @@ def main(folder):
     for chunk in range(CHUNKS):
         # rows come in the order of their ids, so that the statistics tell much of them
         ids = np.arange(chunk * ROWS, (chunk + 1) * ROWS, dtype=np.int64)
-        prices = numbers.integers(0, 100 * (1 + chunk), ROWS, dtype=np.int32)
+        prices = numbers.integers(0, 10_000 * (1 + chunk), ROWS) / 100
         stocks = numbers.integers(0, 30, ROWS, dtype=np.int32)
         has_stock = numbers.random(ROWS) > 0.1
         bits = np.packbits(has_stock, bitorder="little")

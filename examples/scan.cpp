@@ -15,8 +15,8 @@
 #include <iterator>
 #include <numeric>
 
-static const char FILTER[] = "id >= 700000 or id >= 120000 and price between 10 and 500 and stock > 5";
-static const char SCHEMA[] = "{id=i64, price=i32, stock=i32?, note=utf8?}";
+static const char FILTER[] = "id >= 700000 or id >= 120000 and price between 9.99 and 499.5 and stock > 5";
+static const char SCHEMA[] = "{id=i64, price=f64, stock=i32?, note=utf8?}";
 static const std::size_t THREADS = 4;
 
 // A column of the table: its name, its type in a schema, the bytes of a number, and whether it has nulls.
@@ -27,7 +27,7 @@ struct Field {
     bool is_nullable;
 };
 
-static const Field FIELDS[] = {{"id", "i64", 8, false}, {"price", "i32", 4, false}, {"stock", "i32?", 4, true}};
+static const Field FIELDS[] = {{"id", "i64", 8, false}, {"price", "f64", 8, false}, {"stock", "i32?", 4, true}};
 
 static std::vector<char> read(const std::string &path) {
     std::ifstream file(path, std::ios::binary);

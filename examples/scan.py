@@ -13,8 +13,8 @@ from concurrent.futures import ThreadPoolExecutor
 import numpy as np
 import vx
 
-FILTER = "id >= 700000 or id >= 120000 and price between 10 and 500 and stock > 5"
-TYPES = {"id": "i64", "price": "i32", "stock": "i32?", "note": "utf8?"}
+FILTER = "id >= 700000 or id >= 120000 and price between 9.99 and 499.5 and stock > 5"
+TYPES = {"id": "i64", "price": "f64", "stock": "i32?", "note": "utf8?"}
 THREADS = 4
 
 
@@ -58,7 +58,7 @@ def scan(folder):
 def by_numpy(folder, chunk):
     """The same of a chunk that is read as a whole, by numpy alone."""
     ids, price, stock = (read(folder, chunk, name) for name in ("id", "price", "stock"))
-    is_sold = (ids >= 120_000) & (price >= 10) & (price <= 500) & (stock > 5)
+    is_sold = (ids >= 120_000) & (price >= 9.99) & (price <= 499.5) & (stock > 5)
     return (ids >= 700_000) | is_sold.filled(False)
 
 

@@ -175,6 +175,7 @@ vx_status vx_plan_paths(vx_plan *plan, char *buffer, size_t buffer_length, vx_an
 
        bool                    validity, values
        i8 to i64, u8 to u64    validity, values
+       f32, f64                validity, values of 32 and 64 bits
        decimal(p, s)           validity, units in 128 bits
        date                    validity, days since 1970 in 32 bits
        timestamp(unit)         validity, units since 1970 in 64 bits
@@ -185,8 +186,8 @@ vx_status vx_plan_paths(vx_plan *plan, char *buffer, size_t buffer_length, vx_an
 
    Validity has a bit for each row, the least significant of a byte first, which is 1 where the row isn't
    null; where its length is 0 no row is null. Truth values are such bits, too. Numbers are in little-endian
-   order. Offsets are signed numbers of 32 bits, one more than there are rows. A buffer may be longer than
-   it has to be, and what a null hides isn't looked at. */
+   order, and each NaN is read as the quiet one. Offsets are signed numbers of 32 bits, one more than there are
+   rows. A buffer may be longer than it has to be, and what a null hides isn't looked at. */
 vx_status vx_plan_scan(vx_plan *plan, size_t rows, const vx_buffer *buffers, size_t buffers_length,
                        char *buffer, size_t buffer_length, vx_answer *answer);
 

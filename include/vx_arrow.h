@@ -22,6 +22,7 @@
  * none is. Metadata isn't read. Types by their formats, each nullable or not:
  *
  *     b  c C s S i I l L    bool, i8, u8, i16, u16, i32, u32, i64, u64
+ *     f g                   f32, f64
  *     d:P,S                 decimal(P, S), of 128 bits; also d:P,S,128
  *     tdD                   date
  *     tss: tsm: tsu: tsn:   timestamp(s), timestamp(ms), timestamp(us), timestamp(ns), a zone behind the colon

@@ -2,7 +2,7 @@
 # Builds the library of include/vx.h, as bindings/out/libvx.a and libvx.so, and runs what tests it: the
 # header against the exports, the tests in C, C++, Python and Rust, texts of ten megabytes through each call,
 # random buffers and columns of Arrow's through each under sanitizers, what docs/embed/FFI.md shows, the
-# programs of examples, and the 200 expressions of bindings/tests, which the program and the three languages
+# programs of examples, and the 206 expressions of bindings/tests, which the program and the three languages
 # have to answer alike. Ends with a line `bindings: N passed, M failed`, and with status 1 where something
 # failed.
 #
@@ -131,7 +131,7 @@ debian_python() {
 
 # The same of numpy's arrays.
 numpy_tests() {
-    debian_python numpy python3-numpy && for tests in test_numpy test_capsules test_days; do
+    debian_python numpy python3-numpy && for tests in test_numpy test_capsules test_days test_floats; do
         VX_LIBRARY=$out/libvx.so /usr/bin/python3 -m unittest discover -q -s bindings/python/tests -p "$tests.py" || return 1
     done
 }

@@ -18,10 +18,10 @@ const int64_t ARROW_BUFFERS[] = {2, 2, 3, 2, 1, 1}, ARROW_CHILDREN[] = {0, 0, 0,
 const Path ARROW_ROW = {NULL, NULL, 0};
 
 static const Type TYPES[] = {
-    {"b", "bool", BITS, 0},   {"c", "i8", NUMBERS, 1},  {"C", "u8", NUMBERS, 1},   {"s", "i16", NUMBERS, 2},
-    {"S", "u16", NUMBERS, 2}, {"i", "i32", NUMBERS, 4}, {"I", "u32", NUMBERS, 4},  {"l", "i64", NUMBERS, 8},
-    {"L", "u64", NUMBERS, 8}, {"u", "utf8", BYTES, 0},  {"z", "binary", BYTES, 0}, {"+l", "list", LIST, 0},
-    {"+s", "", STRUCT, 0},    {"tdD", "date", NUMBERS, 4},
+    {"b", "bool", BITS, 0},    {"c", "i8", NUMBERS, 1},  {"C", "u8", NUMBERS, 1},  {"s", "i16", NUMBERS, 2},
+    {"S", "u16", NUMBERS, 2},  {"i", "i32", NUMBERS, 4}, {"I", "u32", NUMBERS, 4}, {"l", "i64", NUMBERS, 8},
+    {"L", "u64", NUMBERS, 8},  {"f", "f32", NUMBERS, 4}, {"g", "f64", NUMBERS, 8}, {"u", "utf8", BYTES, 0},
+    {"z", "binary", BYTES, 0}, {"+l", "list", LIST, 0},  {"+s", "", STRUCT, 0},    {"tdD", "date", NUMBERS, 4},
 };
 
 /* --- texts --- */
@@ -192,7 +192,7 @@ vx_status arrow_type(const Call *call, const Path *at, const struct ArrowSchema 
         return arrow_stop(call, VX_SCHEMA, at, "expected values without a dictionary", "");
     if (!is_read(schema->format, type))
         return arrow_stop(call, VX_SCHEMA, at,
-                          "expected a format of bcCsSiIlLuz, d:P,S, tdD, tsU:Z, +l, +s or +w:N, and not ",
+                          "expected a format of bcCsSiIlLfguz, d:P,S, tdD, tsU:Z, +l, +s or +w:N, and not ",
                           schema->format);
     int64_t wanted = ARROW_CHILDREN[type->layout], found = schema->n_children;
     if (type->layout == STRUCT ? found < wanted : found != wanted)

@@ -76,8 +76,8 @@ static void expect_type(const struct ArrowSchema *schema, const char *text)
 static void test_formats(void)
 {
     static const char *const FORMATS[][2] = {
-        {"b", "bool"}, {"c", "i8"},  {"C", "u8"},  {"s", "i16"},  {"S", "u16"},    {"i", "i32"},
-        {"I", "u32"},  {"l", "i64"}, {"L", "u64"}, {"u", "utf8"}, {"z", "binary"},
+        {"b", "bool"}, {"c", "i8"},  {"C", "u8"},  {"s", "i16"}, {"S", "u16"}, {"i", "i32"},  {"I", "u32"},
+        {"l", "i64"},  {"L", "u64"}, {"f", "f32"}, {"g", "f64"}, {"u", "utf8"}, {"z", "binary"},
     };
     for (size_t i = 0; i < sizeof FORMATS / sizeof FORMATS[0]; i++)
         for (int is_nullable = 0; is_nullable < 2; is_nullable++) {
@@ -283,7 +283,7 @@ static void expect_answer(int line)
         expect_answer(__LINE__);                            \
     } while (0)
 
-#define FORMATS_TAKEN "expected a format of bcCsSiIlLuz, d:P,S, tdD, tsU:Z, +l, +s or +w:N, and not "
+#define FORMATS_TAKEN "expected a format of bcCsSiIlLfguz, d:P,S, tdD, tsU:Z, +l, +s or +w:N, and not "
 
 static void test_wrong_schemas(void)
 {
@@ -302,7 +302,7 @@ static void test_wrong_schemas(void)
     WRONG(VX_SCHEMA, x->n_children, 1, "Arrow schema: $.b: expected n_children 0, and not 1");
     WRONG(VX_SCHEMA, x->n_children, INT64_MAX, "Arrow schema: $.b: expected n_children 0, and not 9223372036854775807");
     static const char *const FORMATS[] = {
-        "",   "f",  "g",  "e",  "n",   "U",     "Z",     "vu",            "vz", "d:39,2", "w:3", "tdm", "tsu",
+        "",   "ff", "h",  "e",  "n",   "U",     "Z",     "vu",            "vz", "d:39,2", "w:3", "tdm", "tsu",
         "+L", "+m", "+r", "+w", "+w:", "+w:-1", "+w:3x", "+w:4294967296", "ii", "+s ",    "B",   "ts:", "tsx:UTC",
         "d:0,0", "d:9", "d:9,10", "d:9,2,256", "d: 9,2", "d:09,2", "d:9,-1", "+w:99999999999999999999",
     };
@@ -315,10 +315,12 @@ static void test_wrong_schemas(void)
         x->format = was;
     }
     WRONG(VX_SCHEMA, l->n_children, 0, "Arrow schema: $.`two words`: expected n_children 1, and not 0");
-    WRONG(VX_SCHEMA, l->children[0]->format, "f", "Arrow schema: $.`two words`.a: " FORMATS_TAKEN "f");
+    WRONG(VX_SCHEMA, l->children[0]->format, "e", "Arrow schema: $.`two words`.a: " FORMATS_TAKEN "e");
     /* Another type than the plan's. */
     WRONG(VX_RECORDS, x->format, "I", "batch: $: expected a batch of the plan's type, and not of "
                                       "{a=utf8?, b=u32?, c=bool, `two words`=list(i8)?}");
+    WRONG(VX_RECORDS, x->format, "f", "batch: $: expected a batch of the plan's type, and not of "
+                                      "{a=utf8?, b=f32?, c=bool, `two words`=list(i8)?}");
     WRONG(VX_RECORDS, x->name, "B", "batch: $: expected a batch of the plan's type, and not of "
                                     "{a=utf8?, B=i32?, c=bool, `two words`=list(i8)?}");
     WRONG(VX_RECORDS, row->n_children, 3, "batch: $: expected a batch of the plan's type, and not of "

@@ -134,7 +134,7 @@ static void break_array(struct ArrowArray *array)
 
 static void break_schema(struct ArrowSchema *schema)
 {
-    static const char *const FORMATS[] = {"f", "+L", "U", "+w:x", "", NULL};
+    static const char *const FORMATS[] = {"e", "+L", "U", "+w:x", "", NULL};
     switch (by_chance(5)) {
     case 0: schema->format = FORMATS[by_chance(6)]; break;
     case 1: schema->n_children = by_chance(2) ? -1 : INT64_MIN; break;

@@ -159,10 +159,25 @@ static void put_texts(Column *c, size_t rows, bool is_text)
     c->array.buffers[2] = whole;
 }
 
+static bool is_float(char format)
+{
+    return format == 'f' || format == 'g';
+}
+
 static size_t size_of(char format)
 {
     static const char FORMATS[] = "cCsSiIlL";
+    if (is_float(format))
+        return format == 'f' ? 4 : 8;
     return (size_t)1 << (strchr(FORMATS, format) - FORMATS) / 2;
+}
+
+static char *random_floats(size_t size, size_t rows)
+{
+    char *bytes = taken(size * rows);
+    for (size_t i = 0; i < rows; i++)
+        put_float(bytes + size * i, size);
+    return bytes;
 }
 
 Column column_of(const char *format, bool is_nullable, size_t offset, size_t rows)
@@ -175,6 +190,8 @@ Column column_of(const char *format, bool is_nullable, size_t offset, size_t row
         put_texts(&c, offset + rows, *format == 'u');
     else if (*format == 'b')
         c.array.buffers[1] = random_bytes((offset + rows + 7) / 8);
+    else if (is_float(*format))
+        c.array.buffers[1] = random_floats(size_of(*format), offset + rows);
     else
         c.array.buffers[1] = random_bytes(size_of(*format) * (offset + rows));
     return c;
@@ -222,7 +239,7 @@ static Column random_lists(size_t levels, bool is_nullable, size_t offset, size_
 
 Column random_column(size_t levels, size_t rows)
 {
-    static const char *const FORMATS[] = {"b", "c", "C", "s", "S", "i", "I", "l", "L", "u", "z"};
+    static const char *const FORMATS[] = {"b", "c", "C", "s", "S", "i", "I", "l", "L", "f", "g", "u", "z"};
     bool is_nullable = by_chance(2) > 0;
     size_t offset = by_chance(3) ? by_chance(10) : 0;
     rows += by_chance(3) ? 0 : by_chance(4);
@@ -241,7 +258,7 @@ Column random_column(size_t levels, size_t rows)
     }
     if (kind == 2)
         return random_lists(levels, is_nullable, offset, rows);
-    return column_of(FORMATS[by_chance(11)], is_nullable, offset, rows);
+    return column_of(FORMATS[by_chance(13)], is_nullable, offset, rows);
 }
 
 /* --- the consumer --- */
@@ -294,6 +311,11 @@ bool is_null_at(const struct ArrowArray *array, int64_t row)
 
 static void add_number(Lines *lines, char format, const char *bytes)
 {
+    char room[FLOAT_ROOM];
+    if (is_float(format)) {
+        add_text(lines, text_of_float(bytes, size_of(format), room));
+        return;
+    }
     uint64_t number = 0;
     size_t size = size_of(format);
     for (size_t i = 0; i < size; i++)

@@ -28,6 +28,14 @@ Column column_of(const char *format, bool is_nullable, size_t offset, size_t row
 /* A struct of the columns, which are its own then: of fields a, b, c and so on. */
 Column struct_of(Column *columns, size_t count, bool is_nullable, size_t offset, size_t rows);
 
+/* Puts a floating-point number of 4 or 8 bytes there by chance: a known one, or some eighths. */
+void put_float(char *at, size_t size);
+
+enum { FLOAT_ROOM = 32 };
+
+/* The text of such a number in a record: of eighths it is written into the room. */
+const char *text_of_float(const char *at, size_t size, char room[FLOAT_ROOM]);
+
 /* Calls both releases. */
 void release_column(Column *column);
 

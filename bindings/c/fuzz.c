@@ -26,7 +26,8 @@ static const char *const WORDS[] = {
     "x",      "y",    "s",     "a.x",       "$",     " and ", " or ",   "not ", " = ",     " < ",
     "between", "1",   "5i64",  "null",      "(",     ")",     "\"t%\"", " like ", "case when ",
     " then ", " else ", " end", "cast(",    " as i32", "[",   "]",      "{",    "}",       "i32",
-    "utf8?",  "x=",   ", ",    "\"x\": ",   "\n",    "{\"rows\": 3", "\"fields\": ", "\xc3\xa4", "\xff"};
+    "utf8?",  "x=",   ", ",    "\"x\": ",   "\n",    "{\"rows\": 3", "\"fields\": ", "\xc3\xa4", "\xff",
+    "1.5",    "f64",  "nan"};
 
 enum { WORD_COUNT = sizeof WORDS / sizeof WORDS[0], MOST = 60 };
 
@@ -116,7 +117,7 @@ static void fuzz_texts(Call call, size_t times, char *const memory[4])
 /* --- plans --- */
 
 /* The buffers of two rows of this type. */
-#define BATCH_TYPE "{x=i32?, s=utf8, l=list(bool)?, f=fixed_size_list(i8)[2]}"
+#define BATCH_TYPE "{x=i32?, s=utf8, l=list(bool)?, f=fixed_size_list(i8)[2], g=f64?}"
 #define PART(bytes) {bytes, sizeof bytes - 1}
 
 static const Text PARTS[] = {
@@ -125,6 +126,7 @@ static const Text PARTS[] = {
     {NULL, 0}, PART("\0\0\0\0\1\0\0\0\3\0\0\0"), PART("t\303\244"),
     PART("\3"), PART("\0\0\0\0\1\0\0\0\2\0\0\0"), PART("\3"), PART("\2"),
     PART("\3"), PART("\17"), PART("\1\2\3\4"),
+    PART("\1"), PART("\0\0\0\0\0\0\360\77\0\0\0\0\0\0\370\177"),
 };
 
 enum { PART_COUNT = sizeof PARTS / sizeof PARTS[0], MOST_BUFFERS = PART_COUNT + 2 };
@@ -146,7 +148,7 @@ static size_t random_buffers(vx_buffer *buffers, char *const memory[MOST_BUFFERS
 /* Plans are made, asked for their paths, scan and select, mostly over good batches. */
 static void fuzz_plans(size_t times, char *const memory[4])
 {
-    static const char *const GOOD[] = {"x + 1 > 5 and s like \"t%\"", "x + 2147483647", "l", "$", "f"};
+    static const char *const GOOD[] = {"x + 1 > 5 and s like \"t%\"", "x + 2147483647", "l", "$", "f", "g + 1.5 > 2.0"};
     Tally made = {0}, paths = {0}, scans = {0}, selects = {0}, columns = {0}, filters = {0};
     vx_plan plan = VX_PLAN_INIT;
     char *lent[MOST_BUFFERS];

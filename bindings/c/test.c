@@ -129,6 +129,7 @@ int main(int argc, char **argv)
         test_plans();
         test_long_batches();
         test_arrow();
+        test_arrow_floats();
         test_refusals();
         return ended();
     }

@@ -64,6 +64,7 @@ enum { ROOM = 4096 };
 char *guarded_end(void);
 
 void test_arrow(void);
+void test_arrow_floats(void);
 void test_calls(void);
 void test_long_batches(void);
 void test_long_texts(void);

@@ -2,6 +2,7 @@
 #include "vx.hpp"
 
 #include <atomic>
+#include <cmath>
 #include <cstdio>
 #include <cstring>
 #include <memory>
@@ -140,9 +141,32 @@ static void test_arrow() {
     x.format = "l";
     EXPECT(stops([&] { plan.select(type, array); }, VX_BAD_DATA, VX_RECORDS, 0, 0));
     EXPECT(stops([&] { plan.scan(type, array); }, VX_BAD_DATA, VX_RECORDS, 0, 0));
-    x.format = "g";
+    x.format = "e";
     EXPECT(stops([&] { plan.select(type, array); }, VX_BAD_DATA, VX_SCHEMA, 0, 0));
     EXPECT(stops([&] { vx::schema_of(type); }, VX_BAD_DATA, VX_SCHEMA, 0, 0));
+}
+
+// Floating-point numbers are in IEEE 754's total order: -0 before 0, and NaN last.
+static void test_floats() {
+    const double numbers[] = {0.0, 9.99, -0.0, std::nan(""), 1.0};
+    const std::vector<double> rows(numbers + 1, numbers + 5);
+    const std::vector<uint8_t> is_there{7}, wanted{1, 1, 1, 0};
+    vx::Plan plan("x > 9.0 or x < 0.0", "{x=f64?}"), column("x", "{x=f64?}");
+    const std::vector<vx_buffer> batch{{nullptr, 0}, vx::lend(is_there), vx::lend(rows)};
+    EXPECT(plan.select(4, batch) == wanted);
+    EXPECT(column.scan_json(4, batch) == "9.99\n-0.0\n\"nan\"\nnull\n");
+    const uint8_t from_1 = 14;
+    const void *buffers[] = {&from_1, numbers}, *none[] = {nullptr};
+    auto kept = [](auto *) {};
+    ArrowSchema x{"g", "x", nullptr, ARROW_FLAG_NULLABLE, 0, nullptr, nullptr, kept, nullptr}, *fields[] = {&x};
+    ArrowSchema type{"+s", "", nullptr, 0, 1, fields, nullptr, kept, nullptr};
+    ArrowArray inner{4, -1, 1, 2, 0, buffers, nullptr, nullptr, kept, nullptr}, *columns[] = {&inner};
+    ArrowArray array{4, 0, 0, 1, 1, none, columns, nullptr, kept, nullptr};
+    EXPECT(vx::schema_of(type) == "{x=f64?}" && plan.select(type, array) == wanted);
+    const vx::Column found = column.scan(type, array);
+    EXPECT(vx::schema_of(found.type) == "f64?" && found.array.length == 4 && found.array.null_count == 1);
+    EXPECT(static_cast<const double *>(found.array.buffers[1])[0] == 9.99);
+    EXPECT(std::isnan(static_cast<const double *>(found.array.buffers[1])[2]));
 }
 
 int main() {
@@ -152,6 +176,7 @@ int main() {
     test_plans();
     test_shared_plans();
     test_arrow();
+    test_floats();
     std::printf("C++: %d checks, %d failed\n", checks, failures);
     return failures > 0;
 }

@@ -1,5 +1,6 @@
 """Tests of Arrow's tables and arrays, where pyarrow is installed."""
 
+import math
 import pathlib
 import sys
 import unittest
@@ -30,7 +31,20 @@ class Arrow(unittest.TestCase):
         answer = vx.evaluate("a", table)
         self.assertEqual(answer.to_pylist(), table.column("a").to_pylist())
         with self.assertRaises(TypeError):
-            vx.evaluate("x", pa.table({"x": [1.5]}))
+            vx.evaluate("x", pa.table({"x": pa.array([1], pa.time32("s"))}))
+
+    def test_floats(self):
+        numbers = [1.5, None, -0.0, math.nan, math.inf]
+        for dtype in (pa.float64(), pa.float32()):
+            table = pa.table({"x": pa.array(numbers, dtype)})
+            answer = vx.evaluate("x", table)
+            self.assertEqual((answer.type, repr(answer.to_pylist())), (dtype, repr(numbers)))
+            self.assertEqual(vx.evaluate("x > 1.0", table).to_pylist(), [True, None, False, True, True])
+            self.assertEqual(vx.prune("x > 9.5", table.slice(0, 3)), [vx.Verdict.NO_ROW])
+            self.assertEqual(vx.prune("x > 9.5", table.slice(0, 4)), [vx.Verdict.TO_BE_READ])
+            zeros = [pa.table({"x": pa.array(pair, dtype)}) for pair in ([0.0, -0.0], [-0.0, 0.0])]
+            for expression in ("x < 0.0", "x >= 0.0"):
+                self.assertEqual(vx.prune(expression, zeros), [vx.Verdict.TO_BE_READ] * 2)
 
     def test_scans(self):
         table = pa.table({"s": ["a", None, "b"], "x": pa.array([1, None, 7], pa.int32())})
@@ -50,6 +64,8 @@ class Arrow(unittest.TestCase):
         types = {
             "o": (pa.bool_(), "bool?", [True, None, False]),
             "n": (pa.int64(), "i64?", [1, None, -(2**63)]),
+            "p": (pa.float64(), "f64?", [9.99, None, -math.inf]),
+            "q": (pa.float32(), "f32?", [0.5, None, math.inf]),
             "t": (pa.string(), "utf8?", ["", None, "\u00e4b"]),
             "y": (pa.binary(), "binary?", [b"", None, b"\xff"]),
             "l": (pa.list_(pa.int8()), "list(i8?)?", [[], None, [1, None, 3]]),

@@ -42,7 +42,7 @@ class Capsules(unittest.TestCase):
         self.assertEqual(vx.schema_of(Column("+l", 1, [None, None], [("item", texts("a"))])), "list(utf8)?")
         self.assertEqual(vx.schema_of(record_batch(0, **{"a`b": texts()})), "{`a``b`=utf8}")
         with self.assertRaises(vx.DataError) as caught:
-            vx.schema_of(record_batch(0, x=texts(), y=record_batch(0, z=Column("g", 0, [None, None]))))
+            vx.schema_of(record_batch(0, x=texts(), y=record_batch(0, z=Column("e", 0, [None, None]))))
         self.assertIn("$.y.z: expected a format", str(caught.exception))
         self.assertEqual(caught.exception.place.text, "schema")
         with self.assertRaises(TypeError):
@@ -105,6 +105,24 @@ class Capsules(unittest.TestCase):
         empty = record_batch(0, x=numbers([]), s=texts())
         with vx.Plan("x > 1", vx.schema_of(empty)) as plan:
             self.assertEqual(plan.scan_numpy(empty).tolist(), [])
+
+    def test_floats(self):
+        for arrow, letters, kind in (("g", "d", "f64"), ("f", "f", "f32")):
+            packed = struct.pack(f"<5{letters}", 1.0, 9.75, -0.0, float("nan"), float("inf"))
+            batch = record_batch(4, x=Column(arrow, 4, [bytearray(b"\x1b"), bytearray(packed)], offset=1))
+            self.assertEqual(vx.schema_of(batch), f"{{x={kind}?}}")
+            with vx.Plan("x > 9.5", vx.schema_of(batch)) as plan:
+                self.assertEqual(plan.scan(batch), [True, None, True, True])
+                self.assertEqual(plan.select(batch).tolist(), [True, False, True, True])
+            with vx.Plan("x", vx.schema_of(batch)) as plan:
+                self.assertEqual(repr(plan.scan(batch)), "[9.75, None, nan, inf]")
+                column = plan.scan_arrow(batch)
+                self.assertEqual((column.type, len(column)), (f"{kind}?", 4))
+                if np:
+                    found = column.numpy()
+                    self.assertEqual((found.dtype, repr(found.tolist())), (np.dtype(letters), "[9.75, None, nan, inf]"))
+                    del found
+            del column
 
     def test_offsets(self):
         for offset in range(10):

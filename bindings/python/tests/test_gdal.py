@@ -15,7 +15,7 @@ import vx  # noqa: E402
 from columns import ArrowArray, ArrowSchema  # noqa: E402
 
 ROWS = 1000
-NAMES = ["n", "wide", "text", "flag", "numbers", "words"]
+NAMES = ["n", "wide", "real", "text", "flag", "numbers", "words"]
 
 
 def opened():
@@ -65,6 +65,7 @@ def rows():
         row = {
             "n": at * 7919 % 1000 - 500,
             "wide": at * 10**10,
+            "real": (at - 500) / 7,
             "text": "aä\"\\%"[: at % 6] * (at % 3),
             "flag": at % 3 == 0,
             "numbers": list(range(1 + at % 5)),

@@ -3,6 +3,7 @@
 from __future__ import annotations
 
 import dataclasses
+import math
 from typing import Any, Dict, Iterator, List, Mapping, Tuple
 
 from ._batches import bits_from, number_size
@@ -19,6 +20,8 @@ except ImportError:
 _WORDS = {
     "bool": "bool",
     "date32[day]": "date",
+    "float": "f32",
+    "double": "f64",
     "string": "utf8",
     "large_string": "utf8",
     "string_view": "utf8",
@@ -27,7 +30,7 @@ _WORDS = {
     "binary_view": "binary",
     **{f"{arrow}{size}": f"{word}{size}" for arrow, word in (("int", "i"), ("uint", "u")) for size in (8, 16, 32, 64)},
 }
-_ATOMS = {"bool": "bool_", "date": "date32", "utf8": "string", "binary": "binary"}
+_ATOMS = {"bool": "bool_", "f32": "float32", "f64": "float64", "date": "date32", "utf8": "string", "binary": "binary"}
 
 
 def is_table(rows: Any) -> bool:
@@ -180,11 +183,21 @@ def array_of(values: List[Any], dtype: Type) -> Any:
 
 def _ends(column: Any) -> Dict[str, Any]:
     known: Dict[str, Any] = {"nulls": column.null_count}
-    if pyarrow.types.is_boolean(column.type) or pyarrow.types.is_integer(column.type):
+    kinds = pyarrow.types
+    is_float = kinds.is_float32(column.type) or kinds.is_float64(column.type)
+    if is_float or kinds.is_boolean(column.type) or kinds.is_integer(column.type):
         ends = pyarrow.compute.min_max(column).as_py()
         if ends["min"] is not None:
-            known.update(least=ends["min"], greatest=ends["max"])
+            least, greatest = _total_ends(column, **ends) if is_float else (ends["min"], ends["max"])
+            known.update(least=least, greatest=greatest)
     return known
+
+
+def _total_ends(column: Any, min: float, max: float) -> Tuple[float, float]:
+    """The ends of floating-point numbers in the total order, in which -0 stands before 0 and NaN behind all: Arrow passes
+    over NaN, and doesn't tell the zeros apart."""
+    has_nan = pyarrow.compute.any(pyarrow.compute.is_nan(column)).as_py()
+    return min or -0.0, math.nan if has_nan else max or 0.0
 
 
 def statistics_of(table: Any) -> Dict[str, Any]:

@@ -8,14 +8,17 @@ import struct
 from numbers import Integral
 from typing import Any, Callable, Iterator, List, Mapping, Sequence, Tuple
 
-from . import _numpy
+from . import _floats, _numpy, _views
 from ._errors import DataError, Place
 from ._library import Lent
 from ._types import Type
 from ._units import SIZES, units_of
 
-_NUMBERS = {"i8": "b", "u8": "B", "i16": "h", "u16": "H", "i32": "i", "u32": "I", "i64": "q", "u64": "Q"}
-"""The letters of numbers in `struct`."""
+_INTEGERS = {"i8": "b", "u8": "B", "i16": "h", "u16": "H", "i32": "i", "u32": "I", "i64": "q", "u64": "Q"}
+"""The letters of whole numbers in `struct`."""
+
+_NUMBERS = {**_INTEGERS, **_floats.LETTERS}
+"""Those of all numbers."""
 
 _MOST_BYTES = 2**31 - 1
 
@@ -23,8 +26,8 @@ _MOST_BYTES = 2**31 - 1
 def number_size(kind: str) -> int:
     """How many bytes a number of that kind has, 0 where it is no number.
 
-    >>> number_size("u16"), number_size("date"), number_size("bool")
-    (2, 4, 0)
+    >>> number_size("u16"), number_size("f64"), number_size("date"), number_size("bool")
+    (2, 8, 4, 0)
     """
     if kind in SIZES:
         return SIZES[kind]
@@ -81,8 +84,8 @@ def count_of(columns: Mapping[str, Sequence[Any]]) -> int:
 
 
 def batch_of(rows: Any, dtype: Type) -> Tuple[int, List[Lent]]:
-    """How many rows there are, of a list of them, a dict of columns or an array of numpy's, and their buffers,
-    depth first. Raises :class:`DataError` for a row that isn't of the type.
+    """How many rows there are, of a list of them, a dict of columns, an array of numpy's or a buffer of numbers, and their
+    buffers, depth first. Raises :class:`DataError` for a row that isn't of the type.
 
     >>> from vx._types import type_of
     >>> batch_of([{"x": 1}, {"x": None}], type_of("{x=i16?}"))
@@ -93,7 +96,7 @@ def batch_of(rows: Any, dtype: Type) -> Tuple[int, List[Lent]]:
     if _numpy.is_record_array(rows):
         rows = {name: rows[name] for name in rows.dtype.names}
     if not isinstance(rows, Mapping):
-        values = rows if _numpy.is_array(rows) else list(rows)
+        values = rows if _numpy.is_array(rows) or _views.is_view(rows) else list(rows)
         return len(values), list(_buffers_of(dtype, values, ()))
     count = count_of(rows)
     unknown = sorted(set(rows).difference(name for name, _ in dtype.fields))
@@ -105,7 +108,7 @@ def batch_of(rows: Any, dtype: Type) -> Tuple[int, List[Lent]]:
 
 def _buffers_of(dtype: Type, values: Sequence[Any], path: Tuple[str, ...]) -> Iterator[Lent]:
     """The buffers of a column of rows, depth first."""
-    lent = _numpy.buffers_of(values, dtype) if _numpy.is_array(values) else None
+    lent = (_numpy if _numpy.is_array(values) else _views).buffers_of(values, dtype)
     if lent is not None:
         return iter(lent)
     listed = _numpy.plain(values)
@@ -126,7 +129,9 @@ def _filler(dtype: Type) -> Any:
 def _test_of(dtype: Type) -> Callable[[Any], bool]:
     """Whether a value is of the kind, whatever is inside it."""
     kind = dtype.kind
-    if kind in _NUMBERS:
+    if kind in _floats.LETTERS:
+        return lambda value: _floats.is_of(value, kind)
+    if kind in _INTEGERS:
         bits = 8 * number_size(kind)
         least = -(1 << bits - 1) if kind[0] == "i" else 0
         most = least + (1 << bits) - 1

@@ -13,7 +13,7 @@ from ._statistics import Statistics, Verdict, to_lines, verdicts_of
 from ._types import to_json, type_of, values_of
 
 Rows = Union[Sequence[Any], Mapping[str, Sequence[Any]], Any]
-"""Rows: a list of them, a dict of columns, an array of numpy's, or an Arrow table."""
+"""Rows: a list of them, a dict of columns, an array of numpy's, a buffer of numbers, or an Arrow table."""
 
 
 def encoded(text: str) -> bytes:
@@ -33,8 +33,8 @@ def version() -> str:
 def check(expression: str, schema: str) -> str:
     """The type of the expression over rows of that type.
 
-    >>> check("x = 1", "{x=i32}")
-    'bool'
+    >>> check("x = 1", "{x=i32}"), check("price > 9.99", "{price=f64?}")
+    ('bool', 'bool?')
 
     Raises :class:`UnreadError` for a text that can't be read, and :class:`RefusedError` for an
     expression that has no type.
@@ -115,7 +115,7 @@ def evaluate(expression: str, rows: Rows, schema: Optional[str] = None) -> Any:
 
     The rows are a list, a dict of columns, or an Arrow table; of the first two a list is answered, and
     of a table an array. The schema says their type; that of a table may be left out. A struct is a
-    dict, a list a list, and binary data bytes.
+    dict, a list a list, binary data bytes, and a floating-point number a float.
 
     Raises as :func:`check` does, :class:`DataError` for a row that isn't of the type, and
     :class:`FaultError` where the expression faults; the ``record`` of its ``place`` says at which row,

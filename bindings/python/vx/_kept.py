@@ -64,11 +64,11 @@ class Plan:
         ...     plan.scan([{"x": 1}, {"x": 7}])
         [False, True]
 
-        The batch is a list of rows, a dict of columns, which may be arrays of numpy's, an array of numpy's
-        with a name for each column, or an Arrow table, record batch or array; of pyarrow's an array is
-        answered, and else a list. A column that is left out is null in each row, and what an array of
-        numpy's masks is null. What another library exports by ``__arrow_c_array__`` has all columns of the
-        plan's type, in its order, and is read where it lies.
+        The batch is a list of rows, a dict of columns, which may be arrays of numpy's or of numbers that have
+        the buffer protocol, an array of numpy's with a name for each column, or an Arrow table, record batch
+        or array; of pyarrow's an array is answered, and else a list. A column that is left out is null in each
+        row, and what an array of numpy's masks is null; NaN isn't. What another library exports by
+        ``__arrow_c_array__`` has all columns of the plan's type, in its order, and is read where it lies.
 
         Raises :class:`DataError` for a row that isn't of the plan's type, :class:`FaultError` where the
         expression faults, and :class:`NoPlanError` for a plan that is closed. The ``record`` of the

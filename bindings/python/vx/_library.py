@@ -14,7 +14,7 @@ if TYPE_CHECKING:
     from ._capsules import Exported
 
 Lent = Any
-"""Bytes that are lent: `bytes`, an array of numpy's of bytes, or a buffer of pyarrow's."""
+"""Bytes that are lent: `bytes`, an array of them of ctypes or of numpy's, or a buffer of pyarrow's."""
 
 _ANSWERED, _TOO_SMALL, _OUT_OF_MEMORY = 0, 1, 2
 _LEAST_ROOM = 1024
@@ -198,6 +198,8 @@ def _address(buffer: Lent) -> Any:
     """Where the bytes lie, for as long as the buffer is there."""
     if isinstance(buffer, bytes):
         return ctypes.cast(buffer, ctypes.c_void_p)
+    if isinstance(buffer, ctypes.Array):
+        return ctypes.addressof(buffer)
     return buffer.ctypes.data if hasattr(buffer, "ctypes") else buffer.address
 
 

@@ -8,7 +8,10 @@ from typing import TYPE_CHECKING, Any, List, Optional
 if TYPE_CHECKING:
     from ._types import Type
 
-_LETTERS = {"i8": "<i1", "u8": "<u1", "i16": "<i2", "u16": "<u2", "i32": "<i4", "u32": "<u4", "i64": "<i8", "u64": "<u8"}
+_LETTERS = {
+    **{"i8": "<i1", "u8": "<u1", "i16": "<i2", "u16": "<u2", "i32": "<i4", "u32": "<u4", "i64": "<i8", "u64": "<u8"},
+    **{"f32": "<f4", "f64": "<f8"},
+}
 """The letters of numbers in numpy."""
 
 
@@ -51,11 +54,33 @@ def buffers_of(values: Any, dtype: Type) -> Optional[List[Any]]:
         return [bits, _bits(data)]
     if data.dtype.kind == "M":
         return _instants_of(data, masked if hides else None, dtype)
-    if dtype.kind in _LETTERS and data.dtype.kind in "iu":
+    if dtype.kind in _LETTERS:
         letters = numpy.dtype(_LETTERS[dtype.kind])
-        if _are_within(data[~masked] if hides else data, numpy.iinfo(letters)):
-            return [bits, numpy.ascontiguousarray(data, letters).view(numpy.uint8)]
+        numbers = (_floats_of if letters.kind == "f" else _integers_of)(data, masked if hides else None, letters)
+        return None if numbers is None else [bits, numbers.view(numpy.uint8)]
     return None
+
+
+def _integers_of(data: Any, masked: Any, letters: Any) -> Any:
+    """The whole numbers in these letters. None of other ones, and where one that isn't masked is out of their range."""
+    numpy = sys.modules["numpy"]
+    shown = data if masked is None else data[~masked]
+    is_within = data.dtype.kind in "iu" and _are_within(shown, numpy.iinfo(letters))
+    return numpy.ascontiguousarray(data, letters) if is_within else None
+
+
+def _floats_of(data: Any, masked: Any, letters: Any) -> Any:
+    """The floating-point numbers, each as the nearest one in these letters. None of other ones, of those of more than
+    64 bits, and where an infinity would stand for a finite one that isn't masked."""
+    numpy = sys.modules["numpy"]
+    if data.dtype.kind != "f" or data.dtype.itemsize > 8:
+        return None
+    with numpy.errstate(all="ignore"):
+        numbers = numpy.ascontiguousarray(data, letters)
+    if data.dtype.itemsize <= letters.itemsize:
+        return numbers
+    too_large = numpy.isinf(numbers) & numpy.isfinite(data)
+    return None if (too_large if masked is None else too_large & ~masked).any() else numbers
 
 
 def _instants_of(data: Any, masked: Any, dtype: Type) -> Optional[List[Any]]:

@@ -9,9 +9,9 @@ import json
 import re
 from typing import Any, List, Optional, Tuple
 
-from . import _numpy
+from . import _floats, _numpy
 
-_ATOM = re.compile(r"bool|[ui](?:8|16|32|64)|utf8|binary|date")
+_ATOM = re.compile(r"bool|[ui](?:8|16|32|64)|f32|f64|utf8|binary|date")
 _DECIMAL = re.compile(r"decimal\(([0-9]+), ([0-9]+)\)")
 _TIMESTAMP = re.compile(r"timestamp\((s|ms|us|ns)(?:, \"((?:[^\"]|\"\")*)\")?\)")
 _NAME = re.compile(r"`((?:[^`]|``)*)`|([A-Za-z_][A-Za-z_0-9]*)")
@@ -20,7 +20,7 @@ _WORD = re.compile(r"[A-Za-z_][A-Za-z_0-9]*")
 
 @dataclasses.dataclass(frozen=True)
 class Type:
-    """A type. Its ``kind`` is a word such as ``i32``, ``decimal``, ``date`` or ``timestamp``, or ``list``, ``fixed_size_list`` or ``struct``."""
+    """A type. Its ``kind`` is a word such as ``i32``, ``f64``, ``decimal``, ``date`` or ``timestamp``, or ``list``, ``fixed_size_list`` or ``struct``."""
 
     kind: str
     is_nullable: bool = False
@@ -122,11 +122,15 @@ def type_of(text: str) -> Type:
 
 
 def to_json(value: Any) -> Any:
-    """The value as a record has it: bytes as a text of hexadecimal digits, decimals, days and instants as their texts.
+    """The value as a record has it: bytes as a text of hexadecimal digits, and decimals, days, instants, NaN and the
+    infinities as their texts.
 
     >>> to_json({"a": b"\\x01\\xff", "b": datetime.date(2024, 1, 31), "c": decimal.Decimal("9.50")})
     {'a': '0x01ff', 'b': '2024-01-31', 'c': '9.50'}
     """
+    value = _numpy.plain(value)
+    if isinstance(value, float):
+        return _floats.to_json(value)
     if isinstance(value, datetime.date):
         return value.isoformat()
     if isinstance(value, decimal.Decimal):
@@ -137,7 +141,7 @@ def to_json(value: Any) -> Any:
         return {name: to_json(inner) for name, inner in value.items()}
     if isinstance(value, (list, tuple)):
         return [to_json(inner) for inner in value]
-    return _numpy.plain(value)
+    return value
 
 
 def from_json(value: Any, dtype: Type) -> Any:
@@ -152,6 +156,8 @@ def from_json(value: Any, dtype: Type) -> Any:
     """
     if value is None:
         return None
+    if dtype.kind in _floats.LETTERS:
+        return _floats.from_json(value, dtype.kind)
     if dtype.kind == "decimal":
         return decimal.Decimal(value)
     if dtype.kind in ("date", "timestamp") and isinstance(value, str):
@@ -180,8 +186,8 @@ def values_of(page: str, dtype: Type) -> List[Any]:
 
     >>> values_of("1\\nnull\\n", type_of("i32?"))
     [1, None]
-    >>> values_of("9.50\\n", type_of("decimal(4, 2)"))
-    [Decimal('9.50')]
+    >>> values_of("9.50\\n", type_of("decimal(4, 2)")), values_of("9.5\\n", type_of("f64"))
+    ([Decimal('9.50')], [9.5])
     """
     lines = page.split("\n")[:-1]
     return [from_json(json.loads(line, parse_float=decimal.Decimal), dtype) for line in lines]

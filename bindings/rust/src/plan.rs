@@ -127,7 +127,7 @@ impl Plan {
     ///
     /// | Type | Buffers |
     /// |---|---|
-    /// | `bool`, numbers | validity, values |
+    /// | `bool`, whole numbers, `f32`, `f64` | validity, values |
     /// | `date`, `timestamp(..)`, `decimal(..)` | validity, values of 32, 64 and 128 bits |
     /// | `utf8`, `binary` | validity, offsets of 32 bits, bytes |
     /// | `list` | validity, offsets of 32 bits, the buffers of the items |

@@ -12,6 +12,10 @@ fn pages_are_answered() -> Result<(), Error> {
     assert!(vx::plan_json("x > 5", X)?.contains("\"paths\":[[\"x\"]]"));
     assert_eq!(vx::eval_json("x + 1", X, "{\"x\": 1}\n")?, "2\n");
     assert_eq!(vx::eval_json("x + 1", X, "")?, "");
+    assert_eq!(vx::check("price > 9.99", "{price=f64?}")?, "bool?");
+    let prices = "{\"price\": 0.1}\n{\"price\": \"-inf\"}\n";
+    let sums = vx::eval_json("price + 0.2", "{price=f64}", prices)?;
+    assert_eq!(sums, "0.30000000000000004\n\"-inf\"\n");
     let verdicts = vx::prune("x > 5", X, "{\"rows\": 4}")?;
     assert_eq!(verdicts, "{\"rows\":4,\"verdict\":\"to be read\"}\n");
     assert_eq!(vx::version()?, env!("CARGO_PKG_VERSION"));

@@ -71,6 +71,22 @@ fn batches_of_nested_types_are_read() -> Result<(), Error> {
     Ok(())
 }
 
+/// They are in IEEE 754's total order: -0 before 0, and NaN last.
+#[test]
+fn floats_are_selected_and_scanned() -> Result<(), Error> {
+    let numbers = [9.99, -0.0, f64::NAN, f64::INFINITY, 0.0];
+    let values: Vec<u8> = numbers.iter().flat_map(|x| x.to_le_bytes()).collect();
+    let batch = [&[], &[0b10111][..], &values];
+    let mut plan = Plan::new("x > 9.0 or x < 0.0", "{x=f64?}")?;
+    assert_eq!(plan.select(5, &batch)?, [true, true, true, false, false]);
+    let wanted = "9.99\n-0.0\n\"nan\"\nnull\n0.0\n";
+    assert_eq!(Plan::new("x", "{x=f64?}")?.scan(5, &batch)?, wanted);
+    let single = [0.5f32, -0.0].map(f32::to_le_bytes).concat();
+    let mut plan = Plan::new("x + x", "{x=f32}")?;
+    assert_eq!(plan.scan(2, &[&[], &[], &single])?, "1.0\n-0.0\n");
+    Ok(())
+}
+
 #[test]
 fn two_plans_stand_side_by_side() -> Result<(), Error> {
     let mut more = Plan::new("x + 1", X)?;

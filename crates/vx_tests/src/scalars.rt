@@ -1,8 +1,9 @@
 // Scalars by their constructors: texts, types and values.
-use crate::looks::{answers, differs, gives, shows};
+use crate::looks::{answers, differs, gives, same, shows};
 use vx_test_support::reads;
 use vx_tree::Nullability::Nullable;
 use vx_tree::{DType, Scalar, Value};
+use vx_types::Float;
 
 #[test]
 fn scalars_show_their_value(rt: HostRuntime) {
@@ -21,6 +22,28 @@ fn scalars_show_their_value(rt: HostRuntime) {
     answers(&rt, Scalar::utf8(alloc, "say \"no\""), "\"say \"no\"\"");
     answers(&rt, Scalar::binary(alloc, &[0, 10, 255]), "0x000aff");
     answers(&rt, Scalar::binary(alloc, &[]), "0x");
+}
+
+#[test]
+fn scalars_of_floats_show_the_fewest_digits(rt: HostRuntime) {
+    let price = Float::from_f64_bits(0x4023_fae1_47ae_147b);
+    shows(&rt, Scalar::from_float(price), "9.99f64");
+    let single = Float::from_f32_bits(0x411f_d70a);
+    shows(&rt, Scalar::from_float(single), "9.99f32");
+    let below_zero = Float::from_f64_bits(0x8000_0000_0000_0000);
+    shows(&rt, Scalar::from_float(below_zero), "-0.0f64");
+    assert!(rt; reads(Scalar::from_float(single).dtype(), "f32"));
+}
+
+// The bits of a NaN aren't told apart; those of the zeros are.
+#[test]
+fn scalars_of_floats_have_one_nan_and_two_zeros(rt: HostRuntime) {
+    let quiet = Scalar::from_float(Float::F64(0x7ff8_0000_0000_0000));
+    let other = Scalar::from_float(Float::F64(0xfff0_0000_0000_0001));
+    same(&rt, other, &quiet);
+    let zero = Scalar::from_float(Float::F32(0));
+    differs(&rt, Scalar::from_float(Float::F32(0x8000_0000)), &zero);
+    differs(&rt, Scalar::from_float(Float::F64(0)), &zero);
 }
 
 #[test]

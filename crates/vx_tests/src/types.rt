@@ -4,6 +4,7 @@ use vx_test_support::{dtype, i32_type, names, reads};
 use vx_tree::Nullability::{NonNullable, Nullable};
 use vx_tree::test_harness::struct_dtype;
 use vx_tree::{DType, FieldName, FieldNames, Nullability};
+use vx_types::FloatType;
 
 #[test]
 fn names_are_found_at_their_first_place(rt: HostRuntime) {
@@ -70,6 +71,11 @@ fn types_differ_in_nullability_or_in_more(rt: HostRuntime) {
         i32_type(Nullable).with_nullability(NonNullable),
         &number,
     );
+    let float = DType::Float(FloatType::F64, Nullable);
+    assert!(rt; reads(&float, "f64?") && float.is_nullable());
+    gives(&rt, dtype(alloc, "f64?"), &float);
+    let single = DType::from(FloatType::F32);
+    differs(&rt, single, &float.with_nullability(NonNullable));
     assert!(rt; Nullable.admits_null() && !NonNullable.admits_null());
     assert!(rt; Nullability::of(true) == Nullable);
     let wide = dtype(alloc, "{x=i32?}").expect(&rt, "a type");

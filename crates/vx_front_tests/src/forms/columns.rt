@@ -51,6 +51,11 @@ fn columns(rt: HostRuntime) {
         shown(alloc, column(alloc, [Some("a"), None])),
         "[\"a\", null] of utf8?",
     );
+    gives(
+        &rt,
+        shown(alloc, column(alloc, [Some(1.5f64), None])),
+        "[1.5f64, null] of f64?",
+    );
     gives(&rt, shown(alloc, column(alloc, none)), "[] of bool");
 }
 

@@ -46,6 +46,24 @@ fn whole_numbers(rt: HostRuntime) {
     );
 }
 
+// Behind the point are as few digits as the number is read again by.
+#[test]
+fn floating_point_numbers(rt: HostRuntime) {
+    let alloc = rt.alloc();
+    let none: Option<f32> = None;
+    gives(&rt, literal(alloc, 9.99f64), "9.99f64 of f64");
+    gives(&rt, literal(alloc, 9.99f32), "9.99f32 of f32");
+    gives(&rt, literal(alloc, 1.0f64), "1.0f64 of f64");
+    gives(&rt, literal(alloc, -0.0f64), "-0.0f64 of f64");
+    gives(
+        &rt,
+        literal(alloc, 0.30000000000000004f64),
+        "0.30000000000000004f64 of f64",
+    );
+    gives(&rt, literal(alloc, Some(0.5f32)), "0.5f32 of f32?");
+    gives(&rt, literal(alloc, none), "null of f32?");
+}
+
 fn pets(alloc: Global) -> VortexResult<Scalar> {
     let pets = [
         ("dog", scalar(alloc, 32u32)?),
