@@ -119,7 +119,7 @@ def joined(items):
 def texts(n):
     """Great texts: of 100 n bytes, of 10 n brackets, of a thousand digits, of n conjuncts and n items."""
     most = 100 * n
-    number = "expected a number in its type's range: i32, or one with a suffix of i8, i16, i32, i64, u8, u16, u32, u64"
+    number = "expected a number in its type's range: i32, f64 with a point, or one with a suffix of i8, i16, i32, i64, u8, u16, u32, u64"
     items = ", ".join(["1"] * n)
     return [], None, [
         ("blanks", f"parse | x{' ' * most}+ 1 | ($.x + 1i32)"),

@@ -1,9 +1,9 @@
 // The grammar of generated trees: by what a tree gives, the source text of its node over its children,
 // so that it may stand wherever an operand does.
 //
-// `T1` stands for a tree that gives a truth value, `N1`, `S1`, `P1` for a number, a text, a pair of
-// numbers, and `X1` for what the node gives; the same of them in one row is the same tree. `#t`,
-// `#n`, `#s`, `#p` and `#x` stand for literals.
+// `T1` stands for a tree that gives a truth value, `N1`, `F1`, `C1`, `D1`, `S1`, `P1` for a whole number, a
+// float, a decimal, a day, a text, a pair of numbers, and `X1` for what the node gives; the same of them in
+// one row is the same tree. `#t`, `#n`, `#f`, `#c`, `#d`, `#s` and `#x` stand for literals.
 
 /// What a tree gives.
 #[derive(Clone, Copy)]
@@ -12,9 +12,20 @@ pub enum Kind {
     Number,
     Text,
     Pair,
+    Float,
+    Decimal,
+    Day,
 }
 
-pub const KINDS: [Kind; 4] = [Kind::Truth, Kind::Number, Kind::Text, Kind::Pair];
+pub const KINDS: [Kind; 7] = [
+    Kind::Truth,
+    Kind::Number,
+    Kind::Text,
+    Kind::Pair,
+    Kind::Float,
+    Kind::Decimal,
+    Kind::Day,
+];
 
 impl Kind {
     /// The fields of the scope that give it.
@@ -24,6 +35,9 @@ impl Kind {
             Kind::Number => &["a.x", "a.y", "b"],
             Kind::Text => &["s"],
             Kind::Pair => &["a"],
+            Kind::Float => &["f", "g"],
+            Kind::Decimal => &["p"],
+            Kind::Day => &["d"],
         }
     }
 
@@ -34,6 +48,9 @@ impl Kind {
             Kind::Number => &["0", "1", "3", "2147483647", "null::i32?"],
             Kind::Text => &["\"ab\"", "\"a%\"", "\"_b%\"", "null::utf8?"],
             Kind::Pair => &["pack(x: 1, y: 2)", "pack(x: null::i32?, y: 2)?"],
+            Kind::Float => &FLOAT_LITERALS,
+            Kind::Decimal => &DECIMAL_LITERALS,
+            Kind::Day => &DAY_LITERALS,
         }
     }
 
@@ -44,11 +61,36 @@ impl Kind {
             Kind::Number => &NUMBERS,
             Kind::Text => &TEXTS,
             Kind::Pair => &PAIRS,
+            Kind::Float => &FLOATS,
+            Kind::Decimal => &DECIMALS,
+            Kind::Day => &DAYS,
         }
     }
 }
 
-const TRUTHS: [&str; 24] = [
+const FLOAT_LITERALS: [&str; 6] = [
+    "\"1.5\"::f64",
+    "\"0.1\"::f64",
+    "\"-0.0\"::f64",
+    "\"inf\"::f64",
+    "\"nan\"::f64",
+    "null::f64?",
+];
+
+const DECIMAL_LITERALS: [&str; 4] = [
+    "\"9.99\"::decimal(6, 2)",
+    "\"-0.01\"::decimal(6, 2)",
+    "\"9999.99\"::decimal(6, 2)",
+    "null::decimal(6, 2)?",
+];
+
+const DAY_LITERALS: [&str; 3] = [
+    "\"2024-02-29\"::date",
+    "\"1969-12-31\"::date",
+    "null::date?",
+];
+
+const TRUTHS: [&str; 34] = [
     "(T1 and T2)",
     "(T1 or T2)",
     "(not T1)",
@@ -72,6 +114,16 @@ const TRUTHS: [&str; 24] = [
     "(N1 >= #n)",
     "(S1 = #s)",
     "(T1 > #t)",
+    "(F1 = #f)",
+    "(F1 < F2)",
+    "(#f <= F1 < F2)",
+    "(F1 is null)",
+    "(f >= #f and f < #f)",
+    "(C1 <= #c)",
+    "(C1 != C2)",
+    "(D1 >= #d)",
+    "(D1 = D2)",
+    "(d > #d and #d > d)",
     "fill_null(T1, #t)",
     "cast(T1 as bool?)",
 ];
@@ -84,6 +136,21 @@ const NUMBERS: [&str; 6] = [
     "cast(N1 as i32)",
     "cast(N1 as i32?)",
 ];
+
+const FLOATS: [&str; 4] = [
+    "(F1 + #f)",
+    "(F1 + F2)",
+    "fill_null(F1, #f)",
+    "cast(F1 as f64?)",
+];
+
+const DECIMALS: [&str; 3] = [
+    "(C1 + #c)",
+    "fill_null(C1, #c)",
+    "cast(C1 as decimal(6, 2)?)",
+];
+
+const DAYS: [&str; 2] = ["fill_null(D1, #d)", "cast(D1 as date?)"];
 
 const TEXTS: [&str; 2] = ["fill_null(S1, #s)", "cast(S1 as utf8?)"];
 

@@ -2,12 +2,15 @@
 use crate::pieces::{number, parted, within};
 use crate::unread::Unread;
 use std::alloc::Global;
+use vx_floats::{Float, read_float};
 use vx_tree::Value;
+use vx_types::FloatType;
 
 const MARKS: [char; 6] = ['[', ']', '{', '}', ',', '*'];
 
-/// The value of the word: `null`, a truth value, a whole number, a text behind `'`, `text(HEX)` and
-/// `bytes(HEX)`, a list as `[1,null]`, a struct as `{1,'a}`. In a list or struct `7*` before a value
+/// The value of the word: `null`, a truth value, a whole number, a floating-point number as `f64(1.5)`,
+/// `f32(1.5)` or by its bits as `bits(HEX)`, a text behind `'`, `text(HEX)` and `bytes(HEX)`, a list as
+/// `[1,null]`, a struct as `{1,'a}`. In a list or struct `7*` before a value
 /// says seven times, and a text behind `'` ends at the next mark.
 pub fn value(alloc: Global, word: &str) -> Result<Value, Unread> {
     let mut values = Vec::new(alloc);
@@ -141,6 +144,15 @@ fn flat(alloc: Global, word: &str) -> Result<Value, Unread> {
     if let Some(digits) = within(word, "text") {
         return text(alloc, digits);
     }
+    if let Some(text) = within(word, "f64") {
+        return float(text, FloatType::F64);
+    }
+    if let Some(text) = within(word, "f32") {
+        return float(text, FloatType::F32);
+    }
+    if let Some(digits) = within(word, "bits") {
+        return bits(digits);
+    }
     match word {
         "null" => Ok(Value::Null),
         "true" => Ok(Value::Bool(true)),
@@ -153,6 +165,26 @@ fn int(word: &str) -> Result<Value, Unread> {
     match word.parse::<i128>() {
         Ok(number) => Ok(Value::Int(number)),
         Err(_) => Err(Unread::Word("no value")),
+    }
+}
+
+// The floating-point number of that format which the text writes.
+fn float(text: &str, format: FloatType) -> Result<Value, Unread> {
+    match read_float(text.as_bytes(), format) {
+        Some(number) => Ok(Value::Float(number)),
+        None => Err(Unread::Word("no floating-point number")),
+    }
+}
+
+// The floating-point number of exactly these bits, 32 or 64 by the number of digits.
+fn bits(digits: &str) -> Result<Value, Unread> {
+    let number = match digits.len() {
+        8 => u32::from_str_radix(digits, 16).ok().map(Float::F32),
+        _ => u64::from_str_radix(digits, 16).ok().map(Float::F64),
+    };
+    match number {
+        Some(number) => Ok(Value::Float(number)),
+        None => Err(Unread::Word("no bits")),
     }
 }
 

@@ -11,6 +11,9 @@ struct Layer {
     numbers: Vec<String>,
     texts: Vec<String>,
     pairs: Vec<String>,
+    floats: Vec<String>,
+    decimals: Vec<String>,
+    days: Vec<String>,
 }
 
 impl Layer {
@@ -20,6 +23,9 @@ impl Layer {
             numbers: Vec::new(alloc),
             texts: Vec::new(alloc),
             pairs: Vec::new(alloc),
+            floats: Vec::new(alloc),
+            decimals: Vec::new(alloc),
+            days: Vec::new(alloc),
         }
     }
 
@@ -29,6 +35,9 @@ impl Layer {
             Kind::Number => &mut self.numbers,
             Kind::Text => &mut self.texts,
             Kind::Pair => &mut self.pairs,
+            Kind::Float => &mut self.floats,
+            Kind::Decimal => &mut self.decimals,
+            Kind::Day => &mut self.days,
         };
         Ok(trees.push(tree)?)
     }
@@ -40,6 +49,9 @@ impl Layer {
             Kind::Number => &self.numbers,
             Kind::Text => &self.texts,
             Kind::Pair => &self.pairs,
+            Kind::Float => &self.floats,
+            Kind::Decimal => &self.decimals,
+            Kind::Day => &self.days,
         };
         match trees.len() {
             0 => "$",
@@ -138,6 +150,9 @@ impl Maker {
             "#t" => self.seeds.pick(Kind::Truth.literals()),
             "#n" => self.seeds.pick(Kind::Number.literals()),
             "#s" => self.seeds.pick(Kind::Text.literals()),
+            "#f" => self.seeds.pick(Kind::Float.literals()),
+            "#c" => self.seeds.pick(Kind::Decimal.literals()),
+            "#d" => self.seeds.pick(Kind::Day.literals()),
             "#x" => self.seeds.pick(kind.literals()),
             _ => child(word, kind, below, chosen).unwrap_or(word),
         }
@@ -157,6 +172,9 @@ fn child<'a>(word: &str, kind: Kind, below: &'a Layer, chosen: [usize; 3]) -> Op
         "N" => Kind::Number,
         "S" => Kind::Text,
         "P" => Kind::Pair,
+        "F" => Kind::Float,
+        "C" => Kind::Decimal,
+        "D" => Kind::Day,
         "X" => kind,
         _ => return None,
     };

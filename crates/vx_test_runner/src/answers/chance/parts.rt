@@ -1,6 +1,6 @@
 // What texts by chance are made of.
 
-pub const PARTS: [&str; 96] = [
+pub const PARTS: [&str; 99] = [
     "$",
     "a",
     "b",
@@ -13,6 +13,9 @@ pub const PARTS: [&str; 96] = [
     "300i8",
     "18446744073709551615u64",
     "99999999999999999999",
+    "1.5",
+    "-0.25e-3",
+    "f64?",
     "1x",
     "\"a\"",
     "\"say \"\"hi\"\"\"",
