@@ -58,7 +58,7 @@ pub(crate) fn number_texts<D: Read + Drop>(
 ) -> Option<NumberTexts> {
     if !matches!(
         (&literal.dtype, literal.scalar.value()),
-        (DType::Utf8(_), Value::Int(_) | Value::Float(_))
+        (DType::Utf8(_), Value::Int(_) | Value::Utf8(_))
     ) {
         return None;
     }
