@@ -4,7 +4,7 @@ ghost use Rattle.vx_tree.specs.Views.{bound_of, bounds_of};
 
 use std::alloc::{AllocError, Global};
 use vx_command_pages::joins_conjuncts;
-use vx_prune::{ChunkStats, Verdict, bounds, verdict};
+use vx_prune::{ChunkStats, TypedBounds, Verdict, bounds, verdict};
 use vx_tree::{BoundExpression, DType, ScalarFnRef};
 
 /// The lines of a chunk: its number, its rows and, of a truth value, the verdict; and of each conjunct
@@ -99,6 +99,9 @@ fn push_known(
 ) -> Result<(), AllocError>
     requires { WellTyped (bound_of tree.now) }
 {
-    let within = bounds(tree, stats);
+    let within = TypedBounds {
+        bounds: bounds(tree, stats),
+        dtype: tree.dtype(),
+    };
     page.push_str(format!(in alloc; "{margin}{tree}: {within}\n")?.as_str())
 }

@@ -107,4 +107,5 @@ pub use crate::value::decimal;
 pub use crate::value::scalar;
 pub use crate::value::struct_column;
 pub use crate::value::struct_row;
+pub use crate::value::timestamp;
 pub use vx_forms::expr;

@@ -1,11 +1,14 @@
 -- Literals that are read of texts.
 use Rattle.std.specs.Prelude.{ℕ, ◌==◌, ◌&&◌, Bool, false, List, length, count_by, nat_le, ℤ, Option, Some, None, Result, Err, if◌then◌else◌}
 use Rattle.std.specs.List.{after_first}
+use Rattle.vx_dtype.specs.Timestamps.{instants, zone_name}
+use Rattle.vx_dtype.specs.declared.timestamp_type.TimestampType.{TimestampType}
 use Rattle.vx_dtype.specs.declared.error.VortexError.{VortexError}
 use Rattle.vx_dtype.specs.declared.error.VortexError.TheVariants.{RowMisfit}
 use Rattle.vx_literals.specs.Days.{day_read}
 use Rattle.vx_literals.specs.Decimals.{decimal_read}
 use Rattle.vx_literals.specs.Digits.{is_digit}
+use Rattle.vx_literals.specs.Instants.{instant_read}
 use Rattle.vx_value.specs.Columns.{Constant, constant_or_misfit}
 use Rattle.vx_value.specs.Types.{Atomic, decimals, date, ty, atomic, int}
 
@@ -17,6 +20,10 @@ number_or_misfit kind (Some i) = constant_or_misfit (ty (atomic kind) false) (in
 -- the day of a text
 abbrev pub day_said : List ℕ → Result Constant VortexError
 day_said text = number_or_misfit date (day_read text)
+
+-- the instant of a text, of that type
+abbrev pub instant_said : TimestampType → List ℕ → Result Constant VortexError
+instant_said t text = number_or_misfit (instants t) (instant_read t.unit (zone_name t) text)
 
 -- how many digits a text has
 abbrev pub digit_count : List ℕ → ℕ

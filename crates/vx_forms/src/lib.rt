@@ -28,7 +28,7 @@ pub use choices::{case_when, case_when_no_else, mask, nested_case_when, zip_expr
 pub use collects::{and_collect, or_collect};
 pub use columns::{column, column_of, struct_column};
 pub use fields::{col, get_item, pack, select, select_exclude};
-pub use literals::{date, decimal};
+pub use literals::{date, decimal, timestamp};
 pub use names::{IntoFieldName, IntoFieldNames};
 pub use native::Native;
 pub use nulls::{fill_null, is_not_null, is_null};

@@ -1,10 +1,12 @@
-// Scalars of days and decimals, read of texts.
+// Scalars of days, decimals and instants, read of texts.
 ghost use Rattle.std.specs.Prelude.{◌≡◌, IfSome, is_some};
 ghost use Rattle.vx_dtype.specs.Returns.{Returns};
-ghost use Rattle.vx_forms.specs.Literals.{day_said, decimal_said, digit_count, is_decimal_type, places};
+ghost use Rattle.vx_forms.specs.Literals.{day_said, decimal_said, digit_count, instant_said, is_decimal_type, places};
 
-use vx_literals::{read_day, read_decimal};
-use vx_types::{DType, DecimalType, Nullability, Scalar, Value, VortexError, VortexResult};
+use vx_literals::{read_day, read_decimal, read_instant};
+use vx_types::{
+    DType, DecimalType, Nullability, Scalar, TimestampType, Value, VortexError, VortexResult,
+};
 
 /// The day of a text as `2024-01-31`, of the type of days without null, as `date("2024-01-31")`. Refuses with
 /// `RowMisfit` (18) and row 0 a text that is of no day of the calendar in the years 1 to 9999. Takes no memory.
@@ -13,6 +15,21 @@ pub fn date(text: &str) -> VortexResult<Scalar>
 {
     match read_day(text.as_bytes()) {
         Some(day) => Scalar::try_new(DType::Date(Nullability::NonNullable), Value::Int(day)),
+        None => Err(VortexError::RowMisfit { row: 0 }),
+    }
+}
+
+/// The instant of a text as RFC 3339 has it, `2024-01-31T10:15:30.25Z`, of that type without null. Refuses with
+/// `RowMisfit` (18) and row 0 a text that is of no instant in the years 1 to 9999, has an offset or a `Z` where the
+/// type has no zone, has none where it has one, or has a part of a second that the unit hasn't. Takes no memory.
+pub fn timestamp(text: &str, t: TimestampType) -> VortexResult<Scalar>
+    ensures { Returns (λ s. s) result (instant_said t.entry text.now) }
+{
+    match read_instant(text.as_bytes(), &t) {
+        Some(instant) => {
+            let dtype = DType::Timestamp(t, Nullability::NonNullable);
+            Scalar::try_new(dtype, Value::Int(instant))
+        }
         None => Err(VortexError::RowMisfit { row: 0 }),
     }
 }

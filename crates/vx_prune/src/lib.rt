@@ -8,5 +8,5 @@ mod selected;
 
 pub use chunk_records::ChunkRecords;
 pub use selected::select_rows;
-pub use vx_prune_bounds::{Bounds, Endpoint, Truths};
+pub use vx_prune_bounds::{Bounds, Endpoint, Truths, TypedBounds};
 pub use vx_prune_tree::{ChunkStats, FieldStats, Verdict, bounds, verdict};

@@ -22,4 +22,5 @@ pub use laws::{
     values_are_bounds, wider_bounds_contain_more,
 };
 pub use like::like_truths;
+pub use shown::TypedBounds;
 pub use truths::Truths;

@@ -4,6 +4,7 @@ use std::alloc::Global;
 use vx_forms::*;
 use vx_tree::Nullability::NonNullable;
 use vx_tree::{DType, Scalar, VortexResult};
+use vx_types::{TimeUnit, TimestampType};
 
 // The text of the literal, and its type.
 fn literal<S: IntoScalar>(alloc: Global, value: S) -> VortexResult<String> {
@@ -116,4 +117,27 @@ fn days_and_decimals(rt: HostRuntime) {
     let refused = "the value of row 0 doesn't fit the type";
     gives(&rt, row(alloc, date("2023-02-29")), refused);
     gives(&rt, row(alloc, decimal("1e2")), refused);
+}
+
+// The instant of the text as a time on a clock.
+fn local(alloc: Global, text: &str, unit: TimeUnit) -> VortexResult<String> {
+    literal(alloc, timestamp(text, TimestampType { unit, zone: None })?)
+}
+
+#[test]
+fn instants(rt: HostRuntime) {
+    let alloc = rt.alloc();
+    let text = "2024-01-31T10:15:30.25";
+    gives(
+        &rt,
+        local(alloc, text, TimeUnit::Milliseconds),
+        "2024-01-31T10:15:30.250 of timestamp(ms)",
+    );
+    let refused = "the value of row 0 doesn't fit the type";
+    gives(&rt, local(alloc, text, TimeUnit::Seconds), refused);
+    gives(
+        &rt,
+        local(alloc, "2024-01-31T10:15:30Z", TimeUnit::Seconds),
+        refused,
+    );
 }
