@@ -22,6 +22,12 @@ struct End<'a> {
     dtype: Option<&'a DType>,
 }
 
+impl<'a> End<'a> {
+    fn new(endpoint: Endpoint<'a>, dtype: Option<&'a DType>) -> End<'a> {
+        End { endpoint, dtype }
+    }
+}
+
 /// The value: `true`, `5`, `1.5`, `"ab"`, `0x0a`.
 impl Display for Endpoint<'_> {
     fn fmt<W: Write>(&self, f: &mut Formatter<W>) -> fmt::Result {
@@ -73,10 +79,6 @@ impl Display for TypedBounds<'_> {
     }
 }
 
-fn end<'a>(endpoint: Endpoint<'a>, dtype: Option<&'a DType>) -> End<'a> {
-    End { endpoint, dtype }
-}
-
 fn write_bounds<W: Write>(
     bounds: &Bounds,
     dtype: Option<&DType>,
@@ -95,17 +97,14 @@ fn write_values<W: Write>(
     f: &mut Formatter<W>,
 ) -> fmt::Result {
     match (bounds.least, bounds.greatest) {
-        (Some(least), Some(greatest)) if greatest.at_most(&least) => write!(
-            f,
-            "{}",
-            end(least, dtype)
-        ),
+        (Some(least), Some(greatest)) if greatest.at_most(&least) => End::new(least, dtype).fmt(f),
         (Some(Endpoint::Bool(_)), Some(_)) => f.write_str("false or true"),
         (Some(least), Some(greatest)) => {
-            write!(f, "from {} to {}", end(least, dtype), end(greatest, dtype))
+            let (least, greatest) = (End::new(least, dtype), End::new(greatest, dtype));
+            write!(f, "from {least} to {greatest}")
         }
-        (Some(least), None) => write!(f, "from {} on", end(least, dtype)),
-        (None, Some(greatest)) => write!(f, "up to {}", end(greatest, dtype)),
+        (Some(least), None) => write!(f, "from {} on", End::new(least, dtype)),
+        (None, Some(greatest)) => write!(f, "up to {}", End::new(greatest, dtype)),
         (None, None) => f.write_str("any value"),
     }
 }
