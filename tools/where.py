@@ -64,7 +64,7 @@ def definition(crate, module, name):
         for other, last, renamed in MODULE.findall(read(f"crates/{crate}/specs/Lib.antt")):
             if module == (renamed or last):
                 return definition(other, last, name)
-    found = re.search(rf"^ *(?:abbrev |pub |data |record )*{re.escape(name)}(?= *[:({{])", text, re.MULTILINE)
+    found = re.search(rf"^ *(?:abbrev |pub |unfoldable |data |record )*{re.escape(name)}(?= *[:({{])", text, re.MULTILINE)
     if found:
         return f"{path}:{line_of(text, found.start())}"
     for other, last, names in NAMES.findall(text):
