@@ -1,9 +1,12 @@
 -- What the engines call their types, and how they are told to compare texts.
-use Rattle.std.specs.Prelude.{ℕ, Bool, true, false, List, [], ◌++◌, codes}
+use Rattle.std.specs.Prelude.{ℕ, Bool, true, false, List, [], ◌++◌, Option, Some, None, codes}
+use Rattle.std.specs.Option.{is_some}
 use Rattle.std.specs.Fmt.{decimal}
 use Rattle.vx_dtype.specs.declared.dtype.PType.{PType}
 use Rattle.vx_dtype.specs.declared.dtype.PType.TheVariants.{U8, U16, U32, U64, I8, I16, I32, I64}
-use Rattle.vx_value.specs.Types.{Atomic, truth, number, floating, decimals, date, timestamp, text, octets, LogicalType, ty, atomic, list, fixed, struct}
+use Rattle.vx_dtype.specs.declared.timestamp_type.TimeUnit.{TimeUnit}
+use Rattle.vx_dtype.specs.declared.timestamp_type.TimeUnit.TheVariants.{Seconds, Milliseconds, Microseconds, Nanoseconds}
+use Rattle.vx_value.specs.Types.{Name, Atomic, truth, number, floating, decimals, date, timestamp, text, octets, LogicalType, ty, atomic, list, fixed, struct}
 use Rattle.vx_sql.specs.declared.dialect.Dialect.{Dialect}
 use Rattle.vx_sql.specs.declared.dialect.Dialect.TheVariants.{Postgres, Sqlite, DuckDb, Spark, ClickHouse}
 
@@ -99,14 +102,60 @@ decimal_word ClickHouse = []
 abbrev pub decimal_type : Dialect → ℕ → ℕ → List ℕ
 decimal_type d p s = decimal_word d ++ (codes "(" ++ (decimal p ++ (codes ", " ++ (decimal s ++ codes ")"))))
 
--- the engine's type of such values: none of floating-point numbers and instants, nor of lists and structs
+-- the engine's type of instants without a zone, and of those with one, if it has them in that unit
+abbrev pub clock_word : Dialect → TimeUnit → Option (List ℕ)
+clock_word Postgres Seconds = Some (codes "timestamp(0)")
+clock_word Postgres Milliseconds = Some (codes "timestamp(3)")
+clock_word Postgres Microseconds = Some (codes "timestamp(6)")
+clock_word Postgres Nanoseconds = None
+clock_word Sqlite u = None
+clock_word DuckDb Seconds = Some (codes "TIMESTAMP_S")
+clock_word DuckDb Milliseconds = Some (codes "TIMESTAMP_MS")
+clock_word DuckDb Microseconds = Some (codes "TIMESTAMP")
+clock_word DuckDb Nanoseconds = Some (codes "TIMESTAMP_NS")
+clock_word Spark Seconds = None
+clock_word Spark Milliseconds = None
+clock_word Spark Microseconds = Some (codes "TIMESTAMP_NTZ")
+clock_word Spark Nanoseconds = None
+clock_word ClickHouse u = None
+
+abbrev pub zoned_word : Dialect → TimeUnit → Option (List ℕ)
+zoned_word Postgres Seconds = Some (codes "timestamptz(0)")
+zoned_word Postgres Milliseconds = Some (codes "timestamptz(3)")
+zoned_word Postgres Microseconds = Some (codes "timestamptz(6)")
+zoned_word Postgres Nanoseconds = None
+zoned_word Sqlite u = None
+zoned_word DuckDb Seconds = None
+zoned_word DuckDb Milliseconds = None
+zoned_word DuckDb Microseconds = Some (codes "TIMESTAMPTZ")
+zoned_word DuckDb Nanoseconds = None
+zoned_word Spark Seconds = None
+zoned_word Spark Milliseconds = None
+zoned_word Spark Microseconds = Some (codes "TIMESTAMP_LTZ")
+zoned_word Spark Nanoseconds = None
+zoned_word ClickHouse u = None
+
+-- the same of instants in that zone, whatever its name, or in none
+abbrev pub instant_word : Dialect → TimeUnit → Option Name → Option (List ℕ)
+instant_word d u None = clock_word d u
+instant_word d u (Some z) = zoned_word d u
+
+-- the word, if there is one
+abbrev pub or_nothing : Option (List ℕ) → List ℕ
+or_nothing None = []
+or_nothing (Some w) = w
+
+abbrev pub instant_type : Dialect → TimeUnit → Option Name → List ℕ
+instant_type d u z = or_nothing (instant_word d u z)
+
+-- the engine's type of such values: none of floating-point numbers, lists and structs
 abbrev pub type_word : Dialect → LogicalType → List ℕ
 type_word d (ty (atomic truth) n) = truth_word d
 type_word d (ty (atomic (number p)) n) = number_word d p
 type_word d (ty (atomic (floating f)) n) = []
 type_word d (ty (atomic (decimals p s)) n) = decimal_type d p s
 type_word d (ty (atomic date) n) = date_word d
-type_word d (ty (atomic (timestamp u z)) n) = []
+type_word d (ty (atomic (timestamp u z)) n) = instant_type d u z
 type_word d (ty (atomic text) n) = text_word d
 type_word d (ty (atomic octets) n) = octets_word d
 type_word d (ty (list t) n) = []
@@ -149,14 +198,14 @@ has_decimals DuckDb = true
 has_decimals Spark = true
 has_decimals ClickHouse = false
 
--- whether the engine has such values as ours; floating-point numbers and instants have no text
+-- whether the engine has such values as ours; floating-point numbers have no text
 abbrev pub has_atomic : Dialect → Atomic → Bool
 has_atomic d truth = true
 has_atomic d (number p) = has_numbers d p
 has_atomic d (floating f) = false
 has_atomic d (decimals p s) = has_decimals d
 has_atomic d date = has_days d
-has_atomic d (timestamp u z) = false
+has_atomic d (timestamp u z) = is_some (instant_word d u z)
 has_atomic d text = true
 has_atomic d octets = true
 

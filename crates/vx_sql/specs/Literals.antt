@@ -1,16 +1,18 @@
 -- Literals.
-use Rattle.std.specs.Prelude.{ℕ, Bool, true, false, ℤ, pos, negsuc, List, [], ◌++◌, codes, if◌then◌else◌}
+use Rattle.std.specs.Prelude.{ℕ, Bool, true, false, ℤ, pos, negsuc, List, [], ◌++◌, Option, codes, if◌then◌else◌}
 use Rattle.std.specs.Fmt.{decimal, signed_decimal}
 use Rattle.std.specs.List.{flat_map}
 use Rattle.vx_dtype.specs.declared.dtype.PType.{PType}
 use Rattle.vx_dtype.specs.declared.dtype.PType.TheVariants.{I32}
-use Rattle.vx_value.specs.Types.{number, decimals, date, LogicalType, ty, atomic, Datum, null, bool, int, float, utf8, bytes, list_of, struct_of}
+use Rattle.vx_dtype.specs.declared.timestamp_type.TimeUnit.{TimeUnit}
+use Rattle.vx_value.specs.Types.{Name, number, decimals, date, timestamp, LogicalType, ty, atomic, Datum, null, bool, int, float, utf8, bytes, list_of, struct_of}
 use Rattle.vx_literals.specs.Days.{day_text}
 use Rattle.vx_literals.specs.Decimals.{decimal_text}
+use Rattle.vx_literals.specs.Instants.{instant_text}
 use Rattle.vx_value.specs.ValueTexts.{hex_byte}
 use Rattle.vx_sql.specs.declared.dialect.Dialect.{Dialect}
 use Rattle.vx_sql.specs.declared.dialect.Dialect.TheVariants.{Postgres, Sqlite, DuckDb, Spark, ClickHouse}
-use Rattle.vx_sql.specs.Dialects.{type_word, number_word, decimal_type, cast_text}
+use Rattle.vx_sql.specs.Dialects.{type_word, number_word, decimal_type, instant_type, cast_text}
 use Rattle.vx_sql.specs.Quotes.{text_sql}
 
 -- the word of a truth value
@@ -55,6 +57,10 @@ decimal_sql d p s i = codes "CAST('" ++ (decimal_text i s ++ (codes "' AS " ++ (
 abbrev pub day_sql : ℤ → List ℕ
 day_sql i = codes "DATE '" ++ (day_text i ++ codes "'")
 
+-- an instant of these years as one of the engine's type, by its text
+abbrev pub instant_sql : Dialect → TimeUnit → Option Name → ℤ → List ℕ
+instant_sql d u z i = codes "CAST('" ++ (instant_text u z i ++ (codes "' AS " ++ (instant_type d u z ++ codes ")")))
+
 -- a byte by its two digits behind a backslash
 abbrev pub byte_escape : ℕ → List ℕ
 byte_escape b = codes "\\x" ++ hex_byte b
@@ -86,6 +92,7 @@ literal_sql d (bool b) t = truth_sql d b
 literal_sql d (int i) (ty (atomic (number p)) n) = number_sql d p i
 literal_sql d (int i) (ty (atomic (decimals p s)) n) = decimal_sql d p s i
 literal_sql d (int i) (ty (atomic date) n) = day_sql i
+literal_sql d (int i) (ty (atomic (timestamp u z)) n) = instant_sql d u z i
 literal_sql d (utf8 s) t = text_sql d s
 literal_sql d (bytes bs) t = octets_sql d bs
 literal_sql d (int i) t = []

@@ -1,11 +1,13 @@
 -- Why a node has no SQL text.
-use Rattle.std.specs.Prelude.{ℕ, ℤ, Bool, true, false, not, ◌==◌, ◌&&◌, List, [], ◌∷◌, Option, Some, None, length, if◌then◌else◌, nat_lt}
+use Rattle.std.specs.Prelude.{ℕ, ℤ, pos, Bool, true, false, not, ◌==◌, ◌&&◌, List, [], ◌∷◌, Option, Some, None, length, if◌then◌else◌, nat_lt}
+use Rattle.std.specs.Int.{int_div_euclid}
 use Rattle.std.specs.List.{list_any, count_by}
 use Rattle.std.specs.Option.{option_or, is_some}
 use Rattle.std.specs.Str.{bytes_eq}
 use Rattle.vx_literals.specs.Days.{civil_at}
+use Rattle.vx_literals.specs.Instants.{units_a_day}
 use Rattle.vx_source_types.specs.Names.{same_word}
-use Rattle.vx_value.specs.Types.{Name, number, floating, date, LogicalType, ty, atomic, Datum, null, bool, int, float, utf8, bytes, list_of, struct_of}
+use Rattle.vx_value.specs.Types.{Name, number, floating, date, timestamp, LogicalType, ty, atomic, Datum, null, bool, int, float, utf8, bytes, list_of, struct_of}
 use Rattle.vx_fn.specs.Functions.{Function, case_when, get_item, literal, pack, select, fill_null, zip, Operation, compares, and_also, or_else, adds, binary, logical_not, between, like, is_null, is_not_null, mask, cast, arity_of, is_atomic}
 use Rattle.vx_tree.specs.Nodes.{bound_at, bound_count_of}
 use Rattle.vx_tree.specs.Trees.{BoundTrees}
@@ -59,9 +61,10 @@ names_reason d all (a ∷ names) = option_or (name_reason d all a) (names_reason
 
 -- ---- functions
 
--- a day that is written lies in the years 1 to 9999
+-- a day that is written lies in the years 1 to 9999, and so does that of an instant
 abbrev pub number_reason : LogicalType → ℤ → Option Reason
 number_reason (ty (atomic date) n) i = because (not (is_some (civil_at i))) FarDay
+number_reason (ty (atomic (timestamp u z)) n) i = because (not (is_some (civil_at (int_div_euclid i (pos (units_a_day u)))))) FarDay
 number_reason _ i = None
 
 -- a literal is of a type without parts, no floating-point number, and no text of it has a NUL

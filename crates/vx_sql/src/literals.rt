@@ -2,19 +2,20 @@
 ghost use Rattle.std.specs.Prelude.{◌≡◌, ◌++◌, pos, codes};
 ghost use Rattle.std.specs.Fmt.{WritesOnOk};
 ghost use Rattle.std.specs.List.{flat_map};
+ghost use Rattle.vx_dtype.specs.Timestamps.{zone_name};
 ghost use Rattle.vx_value.specs.Types.{LogicalType};
 ghost use Rattle.vx_value.specs.ValueTexts.{hex_byte};
 ghost use Rattle.vx_value.specs.Views.{type_of, value_of};
 ghost use Rattle.vx_sql.specs.Dialects.{cast_text, decimal_type, type_word};
-ghost use Rattle.vx_sql.specs.Literals.{literal_sql, null_sql, truth_sql, is_by_itself, natural_sql, number_sql, decimal_sql, day_sql, octets_sql, byte_escape};
+ghost use Rattle.vx_sql.specs.Literals.{literal_sql, null_sql, truth_sql, is_by_itself, natural_sql, number_sql, decimal_sql, day_sql, instant_sql, octets_sql, byte_escape};
 
 use crate::Dialect;
 use crate::quotes::write_text;
-use crate::types::{number_word, write_decimal_type, write_type};
+use crate::types::{number_word, write_decimal_type, write_instant_type, write_type};
 use std::fmt;
 use std::fmt::{Display, Formatter, Write};
-use vx_dtype::DecimalType;
-use vx_literals::{write_day, write_decimal};
+use vx_dtype::{DecimalType, TimestampType};
+use vx_literals::{write_day, write_decimal, write_instant};
 use vx_types::{DType, PType, Scalar, Value};
 
 /// Writes the value, none of a floating-point number, a list or a struct.
@@ -43,6 +44,7 @@ fn write_value<W: Write>(
             DType::Primitive(p, _) => write_number(dialect, *p, *number, f),
             DType::Decimal(decimal, _) => write_exact(dialect, *decimal, *number, f),
             DType::Date(_) => write_date(*number, f),
+            DType::Timestamp(timestamp, _) => write_moment(dialect, timestamp, *number, f),
             _ => Ok(()),
         },
         Value::Utf8(text) => write_text(dialect, text.as_str(), f),
@@ -153,6 +155,22 @@ fn write_date<W: Write>(day: i128, f: &mut Formatter<W>) -> fmt::Result
     f.write_str("DATE '")?;
     write_day(day, f)?;
     f.write_str("'")
+}
+
+// Writes an instant of the years 1 to 9999 as one of the engine's type, by its text.
+fn write_moment<W: Write>(
+    dialect: Dialect,
+    timestamp: &TimestampType,
+    instant: i128,
+    f: &mut Formatter<W>,
+) -> fmt::Result
+    ensures { WritesOnOk W.write_str_gives f.old result (instant_sql dialect timestamp.now.unit (zone_name timestamp.now) instant) f.new }
+{
+    f.write_str("CAST('")?;
+    write_instant(instant, timestamp, f)?;
+    f.write_str("' AS ")?;
+    write_instant_type(dialect, timestamp, f)?;
+    f.write_str(")")
 }
 
 // Writes bytes by their digits.

@@ -15,7 +15,7 @@ use crate::types::{has_type, makes_structs};
 use crate::unsupported::Reason;
 use crate::words::is_misread;
 use vx_fn::{Operator, ScalarFnRef};
-use vx_literals::has_day_text;
+use vx_literals::{has_day_text, has_instant_text};
 use vx_tree::BoundExpression;
 use vx_types::{DType, FieldName, Scalar, Value};
 
@@ -192,12 +192,15 @@ fn literal_reason(scalar: &Scalar) -> Option<Reason>
     }
 }
 
-// A day that is written lies in the years 1 to 9999.
+// A day that is written lies in the years 1 to 9999, and so does that of an instant.
 fn number_reason(dtype: &DType, number: i128) -> Option<Reason>
     ensures { result ≡ number_reason (type_of dtype.now) number }
 {
     match dtype {
         DType::Date(_) if !has_day_text(number) => Some(Reason::FarDay),
+        DType::Timestamp(timestamp, _) if !has_instant_text(number, timestamp.unit) => {
+            Some(Reason::FarDay)
+        }
         _ => None,
     }
 }

@@ -1,17 +1,17 @@
 // What the engines call their types.
 ghost use Rattle.std.specs.Fmt.{WritesOnOk};
-ghost use Rattle.std.specs.Prelude.{◌≡◌};
+ghost use Rattle.std.specs.Prelude.{◌≡◌, option_map};
+ghost use Rattle.vx_dtype.specs.Timestamps.{zone_name};
 ghost use Rattle.vx_value.specs.Views.{type_of};
-ghost use Rattle.vx_sql.specs.Dialects.{postgres_word, duckdb_word, spark_word, clickhouse_word, number_word, truth_word, text_word, octets_word, date_word, decimal_word, decimal_type, type_word, collation, has_days, has_decimals, has_numbers, has_parts, has_type, makes_structs};
+ghost use Rattle.vx_sql.specs.Dialects.{postgres_word, duckdb_word, spark_word, clickhouse_word, number_word, truth_word, text_word, octets_word, date_word, decimal_word, decimal_type, clock_word, zoned_word, instant_word, instant_type, type_word, collation, has_days, has_decimals, has_numbers, has_parts, has_type, makes_structs};
 
 use crate::Dialect;
 use std::fmt;
 use std::fmt::{Display, Formatter, Write};
-use vx_dtype::DecimalType;
+use vx_dtype::{DecimalType, TimeUnit, TimestampType};
 use vx_types::{DType, PType};
 
-/// Writes the engine's type of such values: none of floating-point numbers and instants, nor of lists and
-/// structs.
+/// Writes the engine's type of such values: none of floating-point numbers, lists and structs.
 pub(crate) fn write_type<W: Write>(
     dialect: Dialect,
     dtype: &DType,
@@ -26,7 +26,8 @@ pub(crate) fn write_type<W: Write>(
         DType::Date(_) => f.write_str(date_word(dialect)),
         DType::Utf8(_) => f.write_str(text_word(dialect)),
         DType::Binary(_) => f.write_str(octets_word(dialect)),
-        DType::Float(..) | DType::Timestamp(..) => Ok(()),
+        DType::Timestamp(timestamp, _) => write_instant_type(dialect, timestamp, f),
+        DType::Float(..) => Ok(()),
         DType::List(..) | DType::FixedSizeList(..) | DType::Struct(..) => Ok(()),
     }
 }
@@ -64,6 +65,78 @@ fn date_word(dialect: Dialect) -> &'static str
         Dialect::Postgres => "date",
         Dialect::DuckDb | Dialect::Spark => "DATE",
         Dialect::Sqlite | Dialect::ClickHouse => "",
+    }
+}
+
+/// Writes the engine's type of such instants, if it has them.
+pub(crate) fn write_instant_type<W: Write>(
+    dialect: Dialect,
+    timestamp: &TimestampType,
+    f: &mut Formatter<W>,
+) -> fmt::Result
+    ensures { WritesOnOk W.write_str_gives f.old result (instant_type dialect timestamp.now.unit (zone_name timestamp.now)) f.new }
+{
+    match instant_word(dialect, timestamp) {
+        Some(word) => f.write_str(word),
+        None => Ok(()),
+    }
+}
+
+// The engine's type of such instants, if it has them: an instant is the same in each zone.
+fn instant_word(dialect: Dialect, timestamp: &TimestampType) -> Option<&'static str>
+    ensures { option_map (λ w. w.now) result ≡ instant_word dialect timestamp.now.unit (zone_name timestamp.now) }
+{
+    match &timestamp.zone {
+        None => clock_word(dialect, timestamp.unit),
+        Some(_) => zoned_word(dialect, timestamp.unit),
+    }
+}
+
+// The same of those without a zone: PostgreSQL and Spark have no billionths of a second, and Spark microseconds alone.
+fn clock_word(dialect: Dialect, unit: TimeUnit) -> Option<&'static str>
+    ensures { option_map (λ w. w.now) result ≡ clock_word dialect unit }
+{
+    match dialect {
+        Dialect::Postgres => match unit {
+            TimeUnit::Seconds => Some("timestamp(0)"),
+            TimeUnit::Milliseconds => Some("timestamp(3)"),
+            TimeUnit::Microseconds => Some("timestamp(6)"),
+            TimeUnit::Nanoseconds => None,
+        },
+        Dialect::DuckDb => match unit {
+            TimeUnit::Seconds => Some("TIMESTAMP_S"),
+            TimeUnit::Milliseconds => Some("TIMESTAMP_MS"),
+            TimeUnit::Microseconds => Some("TIMESTAMP"),
+            TimeUnit::Nanoseconds => Some("TIMESTAMP_NS"),
+        },
+        Dialect::Spark => match unit {
+            TimeUnit::Microseconds => Some("TIMESTAMP_NTZ"),
+            TimeUnit::Seconds | TimeUnit::Milliseconds | TimeUnit::Nanoseconds => None,
+        },
+        Dialect::Sqlite | Dialect::ClickHouse => None,
+    }
+}
+
+// The same of those with one, of which DuckDB has microseconds alone, too.
+fn zoned_word(dialect: Dialect, unit: TimeUnit) -> Option<&'static str>
+    ensures { option_map (λ w. w.now) result ≡ zoned_word dialect unit }
+{
+    match dialect {
+        Dialect::Postgres => match unit {
+            TimeUnit::Seconds => Some("timestamptz(0)"),
+            TimeUnit::Milliseconds => Some("timestamptz(3)"),
+            TimeUnit::Microseconds => Some("timestamptz(6)"),
+            TimeUnit::Nanoseconds => None,
+        },
+        Dialect::DuckDb => match unit {
+            TimeUnit::Microseconds => Some("TIMESTAMPTZ"),
+            TimeUnit::Seconds | TimeUnit::Milliseconds | TimeUnit::Nanoseconds => None,
+        },
+        Dialect::Spark => match unit {
+            TimeUnit::Microseconds => Some("TIMESTAMP_LTZ"),
+            TimeUnit::Seconds | TimeUnit::Milliseconds | TimeUnit::Nanoseconds => None,
+        },
+        Dialect::Sqlite | Dialect::ClickHouse => None,
     }
 }
 
@@ -182,7 +255,7 @@ pub(crate) fn collation(dialect: Dialect) -> &'static str
     }
 }
 
-/// Whether the engine has such values as ours; floating-point numbers and instants have no text.
+/// Whether the engine has such values as ours; floating-point numbers have no text.
 pub(crate) fn has_type(dialect: Dialect, dtype: &DType) -> bool
     ensures { result ≡ has_type dialect (type_of dtype.now) }
 {
@@ -191,7 +264,8 @@ pub(crate) fn has_type(dialect: Dialect, dtype: &DType) -> bool
         DType::Primitive(p, _) => has_numbers(dialect, *p),
         DType::Decimal(..) => has_decimals(dialect),
         DType::Date(_) => has_days(dialect),
-        DType::Float(..) | DType::Timestamp(..) => false,
+        DType::Timestamp(timestamp, _) => instant_word(dialect, timestamp).is_some(),
+        DType::Float(..) => false,
         DType::List(..) | DType::FixedSizeList(..) | DType::Struct(..) => has_parts(dialect),
     }
 }

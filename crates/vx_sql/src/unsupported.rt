@@ -33,7 +33,7 @@ pub enum Reason {
     /// Its fill is no literal other than null, or is one of a list or a struct.
     #[error("the fill isn't a value without parts")]
     FillNotLiteral,
-    /// It is a day outside the years that have four digits.
+    /// It is a day, or an instant of one, outside the years that have four digits.
     #[error("the day lies outside the years 1 to 9999")]
     FarDay,
     /// A name is empty.

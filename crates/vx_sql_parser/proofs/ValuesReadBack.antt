@@ -1,23 +1,30 @@
--- Days and decimals that are written for an engine are read back.
+-- Days, decimals and instants that are written for an engine are read back.
 use Rattle.std.proofs.Common.{◌≡◌, ℕ, zero, suc, ◌+◌, ◌-◌, ◌*◌, ◌/◌, ◌%◌, ◌^◌, ◌<◌, ◌≤◌, Bool, true, false, List, [], ◌∷◌, ◌++◌, length, length-append, drop, codes, Option, Some, None, Ok, refl, sym, ap, ap₂, ◌∙◌, append_assoc, append-nil, arith}
-use Rattle.std.specs.Prelude.{ℤ, pos, negsuc, unsigned_abs, IsSome, ◌==◌, if◌then◌else◌}
+use Rattle.std.specs.Prelude.{ℤ, pos, negsuc, unsigned_abs, IsSome, option_map, ◌==◌, if◌then◌else◌}
 use Rattle.std.specs.Fmt.{decimal}
+use Rattle.std.specs.Int.{int_div_euclid, int_rem_euclid}
 use Rattle.std.specs.List.{All, flat_map}
 use Rattle.std.specs.Str.{IsUtf8}
 use Rattle.std.specs.Str.Parse.{AllDigits}
 use Rattle.std.proofs.Transfers.{drop-appended}
 use Rattle.std.proofs.Math.Nat.{pow-le-pow_right, div-le_self}
+use Rattle.std.proofs.lemmas.Bool.{cond-false}
 use Rattle.std.proofs.lemmas.Bool.Decides.{nat_tests}
 use Rattle.std.proofs.lemmas.Fmt.{decimal_is_IsNumeral_wide}
 use Rattle.std.proofs.lemmas.List.Elements.{All-cons}
 use Rattle.std.proofs.lemmas.Str.{IsUtf8-from_ascii}
 use Rattle.std.proofs.lemmas.Str.Ascii.{IsAscii-from_all}
 use Rattle.std.proofs.lemmas.Str.Parse.{digit_from_value}
-use Rattle.vx_dtype.specs.Quotes.{doubled}
+use Rattle.vx_dtype.specs.declared.timestamp_type.TimeUnit.{TimeUnit}
+use Rattle.vx_dtype.specs.declared.timestamp_type.TimeUnit.TheVariants.{Seconds, Milliseconds, Microseconds, Nanoseconds}
+use Rattle.vx_dtype.specs.Quotes.{between_quotes, doubled}
+use Rattle.vx_dtype.specs.Texts.{atomic_text}
+use Rattle.vx_dtype.specs.Types.{Name}
 use Rattle.vx_dtype.proofs.Choice.{no}
 use Rattle.vx_literals.specs.Days.{Civil, civil_at, civil_text, day_or_number, day_text}
 use Rattle.vx_literals.specs.Decimals.{decimal_text, point_text, sign_text}
 use Rattle.vx_literals.specs.Digits.{last_digits}
+use Rattle.vx_literals.specs.Instants.{unit_places, units_a_second, units_a_day, part_text, time_text, zone_mark, moment_text, instant_or_number, instant_text}
 use Rattle.vx_source_types.specs.Characters.{is_word}
 use Rattle.vx_source_types.specs.Tokens.{next, has_point, first, word, number, text, sign}
 use Rattle.vx_source_types.specs.declared.token.Sign.TheVariants.{OpenParen, CloseParen, Comma}
@@ -25,25 +32,25 @@ use Rattle.vx_source_types.proofs.FirstNumbers.{spelled}
 use Rattle.vx_source_types.proofs.FirstSigns.{first_open_paren, first_close_paren, first_comma}
 use Rattle.vx_sql.specs.declared.dialect.Dialect.{Dialect}
 use Rattle.vx_sql.specs.declared.dialect.Dialect.TheVariants.{Postgres, Sqlite, DuckDb, Spark, ClickHouse}
-use Rattle.vx_sql.specs.Dialects.{decimal_word, decimal_type}
+use Rattle.vx_sql.specs.Dialects.{decimal_word, decimal_type, instant_word, instant_type}
 use Rattle.vx_sql.specs.Literals.{day_sql, decimal_sql}
 use Rattle.vx_sql.specs.Quotes.{quoting_of}
 use Rattle.vx_sql.proofs.ReadBack.{characters_read}
 use Rattle.vx_sql_parser.specs.SqlTokens as sql
 use Rattle.vx_sql_parser.specs.SqlTokens.{SqlLexeme, folded, put_token, sql_tokens}
-use Rattle.vx_sql_parser.specs.CastTypes.{decimals}
-use Rattle.vx_sql_parser.specs.Values.{days, text_of}
+use Rattle.vx_sql_parser.specs.CastTypes.{decimals, type_source, type_at}
+use Rattle.vx_sql_parser.specs.Values.{days, text_of, instant_said}
 use Rattle.vx_sql_parser.specs.Rules.{written, at_start}
-use Rattle.vx_sql_parser.specs.Laws.{WrittenDaysAreRead, WrittenDecimalsAreRead}
+use Rattle.vx_sql_parser.specs.Laws.{WrittenDaysAreRead, WrittenDecimalsAreRead, WrittenInstantTypesAreRead, WrittenInstantsAreRead, instants_read}
 use Rattle.vx_sql_parser.proofs.ReadBack.{seen, some, backslashing, backslashing_spells, backslashed_read, first_single, made_read, plain_first, numbers_read}
 use Rattle.vx_sql_parser.proofs.TokensFound.{passed_over}
 
--- ---- texts of digits and their signs
+-- ---- texts of digits, their signs and capitals
 
--- each byte is a minus, a point or a digit
+-- each byte lies from the minus to before the backslash, as digits, points, colons and capitals do
 abbrev Clear : List ℕ → Type 0
 Clear [] = Unit {0}
-Clear (b ∷ bs) = (45 ≤ b) × (b < 58) × Clear bs
+Clear (b ∷ bs) = (45 ≤ b) × (b < 92) × Clear bs
 
 clear_behind : (xs ys : List ℕ) → Clear xs → Clear ys → Clear (xs ++ ys)
 clear_behind [] ys h k = k
@@ -59,7 +66,7 @@ clear_utf8 xs h = IsUtf8-from_ascii xs (IsAscii-from_all xs (small xs h))
 no_quote : (b : ℕ) → 45 ≤ b → (b == 39) ≡ false
 no_quote b h = grind (arith, nat_tests)
 
-no_backslash : (b : ℕ) → b < 58 → (b == 92) ≡ false
+no_backslash : (b : ℕ) → b < 92 → (b == 92) ≡ false
 no_backslash b h = grind (arith, nat_tests)
 
 clear_doubled : (xs : List ℕ) → Clear xs → doubled 39 xs ≡ xs
@@ -74,7 +81,7 @@ digits_clear : (ds : List ℕ) → AllDigits 10 ds → Clear ds
 digits_clear [] h = tt
 digits_clear (d ∷ ds) h = let range = digit_from_value d h.0 in (omega arith, omega arith, digits_clear ds h.1)
 
-digit_small : (n : ℕ) → 48 + n % 10 < 58
+digit_small : (n : ℕ) → 48 + n % 10 < 92
 digit_small n = omega arith
 
 last_clear : (k n : ℕ) → Clear (last_digits k n)
@@ -108,6 +115,31 @@ day_clear : (i : ℤ) → IsSome (civil_at i) → Clear (day_text i)
 day_clear i = go (civil_at i) where
   go : (o : Option Civil) → IsSome o → Clear (day_or_number i o)
   go (Some c) h = civil_clear c
+  go None h = cc
+
+time_clear : (u : TimeUnit) (k : ℕ) → Clear (time_text u k)
+time_clear u k =
+    let n = k / units_a_second u in
+    let part = pointed (k % units_a_second u == 0) (unit_places u) k in
+    let seconds : List ℕ = last_digits 2 (n % 60) ++ part_text u k in
+    let minutes : List ℕ = last_digits 2 (n / 60 % 60) ++ 58 ∷ seconds in
+    let second = clear_behind (last_digits 2 (n % 60)) (part_text u k) (last_clear 2 (n % 60)) part in
+    let minute = clear_behind (last_digits 2 (n / 60 % 60)) (58 ∷ seconds) (last_clear 2 (n / 60 % 60)) (omega arith, omega arith, second) in
+    clear_behind (last_digits 2 (n / 3600)) (58 ∷ minutes) (last_clear 2 (n / 3600)) (omega arith, omega arith, minute)
+
+mark_clear : (z : Option Name) → Clear (zone_mark z)
+mark_clear None = tt
+mark_clear (Some a) = (omega arith, omega arith, tt)
+
+moment_clear : (u : TimeUnit) (z : Option Name) (k : ℕ) (c : Civil) → Clear (moment_text u z k c)
+moment_clear u z k c =
+    let time = clear_behind (time_text u k) (zone_mark z) (time_clear u k) (mark_clear z) in
+    clear_behind (civil_text c) (84 ∷ (time_text u k ++ zone_mark z)) (civil_clear c) (omega arith, omega arith, time)
+
+instant_clear : (u : TimeUnit) (z : Option Name) (i : ℤ) → IsSome (civil_at (int_div_euclid i (pos (units_a_day u)))) → Clear (instant_text u z i)
+instant_clear u z i = go (civil_at (int_div_euclid i (pos (units_a_day u)))) where
+  go : (o : Option Civil) → IsSome o → Clear (instant_or_number u z i o)
+  go (Some c) h = moment_clear u z (unsigned_abs (int_rem_euclid i (pos (units_a_day u)))) c
   go None h = cc
 
 -- ---- the first token, and those behind it
@@ -242,3 +274,75 @@ decimals_read Sqlite p s i has k l h = cc
 decimals_read DuckDb p s i has k l h = ap (written DuckDb at_start 0) (decimal_tokens DuckDb (decimal_text i s) p s duckdb_goes (decimal_clear i s h) k l)
 decimals_read Spark p s i has k l h = ap (written Spark at_start 0) (decimal_tokens Spark (decimal_text i s) p s spark_goes (decimal_clear i s h) k l)
 decimals_read ClickHouse p s i has k l h = cc
+
+-- ---- instants
+
+-- the text of an instant is longer than that of a day
+beyond_ten : (n : ℕ) → (suc (10 + n) == 10) ≡ false
+beyond_ten n = grind (arith, nat_tests)
+
+instant_kept : (u : TimeUnit) (z : Option Name) (i : ℤ) → IsSome (civil_at (int_div_euclid i (pos (units_a_day u)))) → instant_said (instant_text u z i) ≡ instant_text u z i
+instant_kept u z i = go (civil_at (int_div_euclid i (pos (units_a_day u)))) where
+  go : (o : Option Civil) → IsSome o → instant_said (instant_or_number u z i o) ≡ instant_or_number u z i o
+  go (Some c) h =
+      let k = unsigned_abs (int_rem_euclid i (pos (units_a_day u))) in
+      cond-false (length (moment_text u z k c) == 10) _ _ (beyond_ten (length (time_text u k ++ zone_mark z)))
+  go None h = cc
+
+-- what stands before the type
+abbrev cast_begin : Dialect → List ℕ → List SqlLexeme → List SqlLexeme
+cast_begin d t xs = Ok (word (folded d (codes "CAST"))) ∷ Ok (sign OpenParen) ∷ Ok (text t) ∷ Ok (word (folded d (codes "AS"))) ∷ xs
+
+begin_goes : (d : Dialect) (t rest : List ℕ) → Clear t → sql_tokens d 0 (codes "CAST('" ++ (t ++ (codes "' AS " ++ rest))) ≡ cast_begin d t (sql_tokens d 0 rest)
+begin_goes d t rest h =
+    cast_goes d (39 ∷ (t ++ 39 ∷ (codes " AS " ++ rest)))
+    ∙ ap (λ xs. Ok (word (folded d (codes "CAST"))) ∷ Ok (sign OpenParen) ∷ xs) (text_goes d t (codes " AS " ++ rest) h refl ∙ ap (λ xs. Ok (text t) ∷ xs) (as_goes d rest))
+
+-- the text of an instant before its type
+abbrev read_as : TimeUnit → Option Name → List ℕ → List ℕ
+read_as u z t = (between_quotes 34 t ++ (codes "::" ++ atomic_text (instants_read u z))) ++ codes " "
+
+-- an engine's type of instants is read, and so is a text that is cast to it
+abbrev TypeIsRead : Dialect → TimeUnit → Option Name → Type 0
+TypeIsRead d u z = option_map type_source (type_at d (sql_tokens d 0 (instant_type d u z)) 0) ≡ Some (atomic_text (instants_read u z))
+
+abbrev CastIsRead : Dialect → TimeUnit → Option Name → Type 0
+CastIsRead d u z = (t : List ℕ) → written d at_start 0 (cast_begin d t (sql_tokens d 0 (instant_type d u z ++ codes ")"))) ≡ Ok (read_as u z (instant_said t))
+
+both_read : (d : Dialect) (u : TimeUnit) (z : Option Name) → IsSome (instant_word d u z) → TypeIsRead d u z × CastIsRead d u z
+both_read Postgres Seconds None has = (refl, λ t. refl)
+both_read Postgres Seconds (Some z) has = (refl, λ t. refl)
+both_read Postgres Milliseconds None has = (refl, λ t. refl)
+both_read Postgres Milliseconds (Some z) has = (refl, λ t. refl)
+both_read Postgres Microseconds None has = (refl, λ t. refl)
+both_read Postgres Microseconds (Some z) has = (refl, λ t. refl)
+both_read Postgres Nanoseconds None has = cc
+both_read Postgres Nanoseconds (Some z) has = cc
+both_read Sqlite u None has = cc
+both_read Sqlite u (Some z) has = cc
+both_read DuckDb Seconds None has = (refl, λ t. refl)
+both_read DuckDb Seconds (Some z) has = cc
+both_read DuckDb Milliseconds None has = (refl, λ t. refl)
+both_read DuckDb Milliseconds (Some z) has = cc
+both_read DuckDb Microseconds None has = (refl, λ t. refl)
+both_read DuckDb Microseconds (Some z) has = (refl, λ t. refl)
+both_read DuckDb Nanoseconds None has = (refl, λ t. refl)
+both_read DuckDb Nanoseconds (Some z) has = cc
+both_read Spark Seconds None has = cc
+both_read Spark Seconds (Some z) has = cc
+both_read Spark Milliseconds None has = cc
+both_read Spark Milliseconds (Some z) has = cc
+both_read Spark Microseconds None has = (refl, λ t. refl)
+both_read Spark Microseconds (Some z) has = (refl, λ t. refl)
+both_read Spark Nanoseconds None has = cc
+both_read Spark Nanoseconds (Some z) has = cc
+both_read ClickHouse u None has = cc
+both_read ClickHouse u (Some z) has = cc
+
+pub instant_types_read : WrittenInstantTypesAreRead
+instant_types_read d u z has = (both_read d u z has).0
+
+pub instants_read_back : WrittenInstantsAreRead
+instants_read_back d u z i has some =
+    ap (written d at_start 0) (begin_goes d (instant_text u z i) (instant_type d u z ++ codes ")") (instant_clear u z i some))
+    ∙ (both_read d u z has).1 (instant_text u z i) ∙ ap (λ t. Ok (read_as u z t)) (instant_kept u z i some)

@@ -1,7 +1,12 @@
--- What is read back of names, texts, numbers, types, days and decimals that are written for an engine.
-use Rattle.std.specs.Prelude.{◌≡◌, ◌<◌, ◌≤◌, ◌^◌, ℕ, ℤ, unsigned_abs, true, false, ◌==◌, List, [], ◌++◌, Some, Ok, IsSome, IsUtf8, codes}
+-- What is read back of names, texts, numbers, types, days, instants and decimals that are written for an engine.
+use Rattle.std.specs.Prelude.{◌≡◌, ◌<◌, ◌≤◌, ◌^◌, ℕ, ℤ, pos, unsigned_abs, true, false, ◌==◌, List, [], ◌++◌, Option, Some, Ok, IsSome, option_map, IsUtf8, codes}
 use Rattle.std.specs.Fmt.{decimal}
-use Rattle.vx_dtype.specs.Types.{Name}
+use Rattle.std.specs.Int.{int_div_euclid}
+use Rattle.std.specs.Option.{is_some}
+use Rattle.vx_dtype.specs.Quotes.{between_quotes}
+use Rattle.vx_dtype.specs.Texts.{atomic_text}
+use Rattle.vx_dtype.specs.Types.{Name, Atomic, timestamp}
+use Rattle.vx_dtype.specs.declared.timestamp_type.TimeUnit.{TimeUnit}
 use Rattle.vx_dtype.specs.declared.dtype.PType.{PType}
 use Rattle.vx_dtype.specs.declared.dtype.PType.TheVariants.{U8, U16, U32, U64, I8, I16, I32, I64}
 use Rattle.vx_source_types.specs.Characters.{is_word}
@@ -9,13 +14,14 @@ use Rattle.vx_source_types.specs.Tokens.{next, has_point, quoted, number, text}
 use Rattle.vx_sql.specs.declared.dialect.Dialect.{Dialect}
 use Rattle.vx_literals.specs.Days.{civil_at, day_text}
 use Rattle.vx_literals.specs.Decimals.{decimal_text}
-use Rattle.vx_sql.specs.Dialects.{postgres_word, duckdb_word, clickhouse_word, has_days, has_decimals}
-use Rattle.vx_sql.specs.Literals.{day_sql, decimal_sql}
+use Rattle.vx_literals.specs.Instants.{instant_text, units_a_day}
+use Rattle.vx_sql.specs.Dialects.{postgres_word, duckdb_word, clickhouse_word, instant_word, instant_type, has_days, has_decimals}
+use Rattle.vx_sql.specs.Literals.{day_sql, decimal_sql, instant_sql}
 use Rattle.vx_sql.specs.declared.dialect.Dialect.TheVariants.{Postgres, DuckDb, ClickHouse}
 use Rattle.vx_sql.specs.Quotes.{name_quote, name_sql, is_escaped, text_sql}
-use Rattle.vx_sql_parser.specs.SqlTokens.{Taken, taken_at}
+use Rattle.vx_sql_parser.specs.SqlTokens.{Taken, taken_at, sql_tokens}
 use Rattle.vx_sql_parser.specs.Types.{type_named}
-use Rattle.vx_sql_parser.specs.CastTypes.{decimals}
+use Rattle.vx_sql_parser.specs.CastTypes.{decimals, zone, type_source, type_at}
 use Rattle.vx_sql_parser.specs.Values.{days, text_of}
 use Rattle.vx_sql_parser.specs.Rules.{sql_source}
 
@@ -60,6 +66,15 @@ in_duckdb I64 = codes "i64"
 abbrev pub WrittenTypesAreRead : Type 0
 WrittenTypesAreRead = (p : PType) → (type_named Postgres (postgres_word p) ≡ Some (in_postgres p)) × (type_named DuckDb (duckdb_word p) ≡ Some (in_duckdb p)) × (type_named ClickHouse (clickhouse_word p) ≡ Some (in_duckdb p))
 
+-- the type of instants that is read of an engine's for them: of those with a zone the one in UTC
+abbrev pub instants_read : TimeUnit → Option Name → Atomic
+instants_read u z = timestamp u (zone (is_some z))
+
+-- what `vx_sql` writes for the types of instants is read
+abbrev pub WrittenInstantTypesAreRead : Type 0
+WrittenInstantTypesAreRead = (d : Dialect) (u : TimeUnit) (z : Option Name) → IsSome (instant_word d u z)
+    → option_map type_source (type_at d (sql_tokens d 0 (instant_type d u z)) 0) ≡ Some (atomic_text (instants_read u z))
+
 -- a day as `vx_sql` writes it is read as its text before the type, which is that day
 abbrev pub WrittenDaysAreRead : Type 0
 WrittenDaysAreRead = (d : Dialect) (i : ℤ) → has_days d ≡ true → IsSome (civil_at i) → sql_source d (day_sql i) ≡ Ok (text_of days (day_text i) ++ codes " ")
@@ -68,3 +83,8 @@ WrittenDaysAreRead = (d : Dialect) (i : ℤ) → has_days d ≡ true → IsSome 
 abbrev pub WrittenDecimalsAreRead : Type 0
 WrittenDecimalsAreRead = (d : Dialect) (p s : ℕ) (i : ℤ) → has_decimals d ≡ true → p ≤ 38 → s ≤ 38 → unsigned_abs i < 10 ^ 38
     → sql_source d (decimal_sql d p s i) ≡ Ok (text_of (decimals p s) (decimal_text i s) ++ codes " ")
+
+-- so is an instant
+abbrev pub WrittenInstantsAreRead : Type 0
+WrittenInstantsAreRead = (d : Dialect) (u : TimeUnit) (z : Option Name) (i : ℤ) → IsSome (instant_word d u z) → IsSome (civil_at (int_div_euclid i (pos (units_a_day u))))
+    → sql_source d (instant_sql d u z i) ≡ Ok ((between_quotes 34 (instant_text u z i) ++ (codes "::" ++ atomic_text (instants_read u z))) ++ codes " ")

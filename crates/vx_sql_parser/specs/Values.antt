@@ -1,5 +1,5 @@
 -- What names, numbers, bytes, casts and calls of SQL are written as.
-use Rattle.std.specs.Prelude.{ℕ, ◌+◌, ◌-◌, ◌||◌, ◌&&◌, ◌==◌, Bool, true, false, List, [], ◌∷◌, ◌++◌, Option, Some, None, Ok, Err, if◌then◌else◌, codes}
+use Rattle.std.specs.Prelude.{ℕ, ◌+◌, ◌-◌, ◌||◌, ◌&&◌, ◌==◌, Bool, true, false, List, [], ◌∷◌, ◌++◌, length, Option, Some, None, Ok, Err, if◌then◌else◌, codes}
 use Rattle.std.specs.Fmt.{decimal}
 use Rattle.std.specs.List.{list_all}
 use Rattle.vx_source_types.specs.Characters.{is_word}
@@ -14,7 +14,7 @@ use Rattle.vx_sql_parser.specs.declared.step.Bracket.TheVariants.{Paren, Fill, L
 use Rattle.vx_sql_parser.specs.declared.step.Change.TheVariants.{Stays, Opens}
 use Rattle.vx_sql_parser.specs.SqlTokens.{SqlLexeme}
 use Rattle.vx_sql_parser.specs.Words.{is_one_of, is_truth}
-use Rattle.vx_sql_parser.specs.CastTypes.{CastType, named, double_precision, decimals, type_source, type_len, type_at}
+use Rattle.vx_sql_parser.specs.CastTypes.{CastType, named, double_precision, decimals, instants, instants_named, type_source, type_len, type_at}
 use Rattle.vx_sql_parser.specs.Patterns.{as_text, behind}
 use Rattle.vx_sql_parser.specs.Steps.{is_kept, Answer, says}
 use Rattle.vx_sql_parser.specs.Ahead.{lexeme_at, opens, closes, is_dot, sign_at, word_at, text_at, is_this, is_word_at}
@@ -56,23 +56,33 @@ has_octets DuckDb = false
 has_octets Spark = true
 has_octets ClickHouse = false
 
+-- the text of an instant: that of a day alone, which has ten bytes, is its midnight
+abbrev pub instant_said : List ℕ → List ℕ
+instant_said s = if length s == 10 then s ++ codes "T00:00:00" else s
+
+abbrev pub value_said : CastType → List ℕ → List ℕ
+value_said (named t) s = s
+value_said double_precision s = s
+value_said (decimals p k) s = s
+value_said (instants u zoned sized) s = instant_said s
+
 -- a text before its type
 abbrev pub text_of : CastType → List ℕ → List ℕ
-text_of t s = between_quotes 34 s ++ (codes "::" ++ type_source t)
+text_of t s = between_quotes 34 (value_said t s) ++ (codes "::" ++ type_source t)
 
 abbrev pub days : CastType
 days = named (codes "date")
 
--- a day by its text, which takes one token
-abbrev pub day_said : Option (List ℕ) → Answer
-day_said None = Err TypedText
-day_said (Some s) = says (text_of days s) Stays 1
+-- the text at the front as one of that type, if there is one
+abbrev pub text_said : Option CastType → Option (List ℕ) → Answer
+text_said (Some t) (Some s) = says (text_of t s) Stays 1
+text_said _ _ = Err TypedText
 
 -- a word before a text
 abbrev pub typed_text : Dialect → List ℕ → List SqlLexeme → Answer
 typed_text d w xs =
     if has_octets d && same_word w (codes "x") then octets_said 1 (text_at xs 0) else (
-    if has_days d && same_word w (codes "date") then day_said (text_at xs 0) else Err TypedText)
+    if has_days d && same_word w (codes "date") then text_said (Some days) (text_at xs 0) else text_said (instants_named d w) (text_at xs 0))
 
 -- a collation, which isn't written where it is the one of bytes
 abbrev pub is_bytes_order : Option Lexeme → Bool
@@ -87,6 +97,7 @@ abbrev pub is_called : List ℕ → CastType → Bool
 is_called a (named t) = same_word t a
 is_called a double_precision = false
 is_called a (decimals p s) = false
+is_called a (instants u zoned sized) = false
 
 -- what says the type of a number: nothing in SQLite, which has one type for all
 abbrev pub is_of_all : Dialect → CastType → Bool
@@ -96,9 +107,16 @@ is_of_all d t = false
 abbrev pub number_type : Dialect → CastType → List ℕ
 number_type d t = if is_of_all d t then [] else codes "::" ++ type_source t
 
--- a number of a type, of which none is a day
+-- whether values of the type are days or instants
+abbrev pub is_dated : CastType → Bool
+is_dated (named t) = same_word t (codes "date")
+is_dated double_precision = false
+is_dated (decimals p s) = false
+is_dated (instants u zoned sized) = true
+
+-- a number of a type, of which none is a day or an instant
 abbrev pub typed_number : Dialect → List ℕ → ℕ → CastType → Option (List ℕ)
-typed_number d minus n t = if is_called (codes "date") t then None else Some (minus ++ (decimal n ++ number_type d t))
+typed_number d minus n t = if is_dated t then None else Some (minus ++ (decimal n ++ number_type d t))
 
 -- a null of a type
 abbrev pub typed_null : CastType → List ℕ
@@ -122,11 +140,12 @@ abbrev pub is_bytes_type : Dialect → CastType → Bool
 is_bytes_type DuckDb t = is_called (codes "binary") t
 is_bytes_type d t = false
 
--- whether values of the type stand as texts before it: days and decimals
+-- whether values of the type stand as texts before it: days, instants and decimals
 abbrev pub has_texts : CastType → Bool
 has_texts (named t) = same_word t (codes "date")
 has_texts double_precision = false
 has_texts (decimals p s) = true
+has_texts (instants u zoned sized) = true
 
 -- a text as one of that type
 abbrev pub text_literal : Dialect → List ℕ → CastType → Option (List ℕ)
@@ -137,6 +156,7 @@ abbrev pub has_points : CastType → Bool
 has_points (named t) = is_one_of (codes "f32" ∷ codes "f64" ∷ []) t
 has_points double_precision = true
 has_points (decimals p s) = true
+has_points (instants u zoned sized) = false
 
 -- a number with a point or an exponent as one of that type
 abbrev pub point_literal : List ℕ → CastType → Option (List ℕ)

@@ -11,7 +11,7 @@ use Rattle.vx_sql_parser.specs.declared.escapes.Inside.{Inside}
 use Rattle.vx_sql_parser.specs.declared.escapes.Inside.TheVariants.{Anywhere, BehindQuote, BehindBackslash}
 use Rattle.vx_sql_parser.specs.SqlTokens.{SqlLexeme, Taken}
 use Rattle.vx_sql_parser.specs.declared.cast_types.CastType.{CastType}
-use Rattle.vx_sql_parser.specs.declared.cast_types.CastType.TheVariants.{Named, DoublePrecision, Decimals}
+use Rattle.vx_sql_parser.specs.declared.cast_types.CastType.TheVariants.{Named, DoublePrecision, Decimals, Instants}
 use Rattle.vx_sql_parser.specs.CastTypes as types
 use Rattle.vx_sql_parser.specs.Values.{Cast}
 
@@ -61,6 +61,7 @@ abbrev pub cast_type_of : CastType → types.CastType
 cast_type_of (Named t) = types.named t.now
 cast_type_of DoublePrecision = types.double_precision
 cast_type_of (Decimals p s) = types.decimals p s
+cast_type_of (Instants unit zoned sized) = types.instants unit zoned sized
 
 -- a literal that a cast is, and how many tokens it takes
 abbrev pub cast_of : String Global × ℕ → Cast

@@ -1,6 +1,10 @@
 // The types of casts.
 ghost use Rattle.std.specs.Prelude.{◌≡◌, ◌<◌, option_map};
+ghost use Rattle.std.specs.Fmt.{WritesOnOk};
+ghost use Rattle.vx_dtype.specs.Texts.{atomic_text, zone_text};
+ghost use Rattle.vx_dtype.specs.Types.{timestamp};
 ghost use Rattle.vx_source_types.specs.Views.{lexeme_of};
+ghost use Rattle.vx_sql.specs.declared.dialect.Dialect.TheVariants.{DuckDb};
 ghost use Rattle.vx_sql_parser.specs.Ahead as ahead;
 ghost use Rattle.vx_sql_parser.specs.CastTypes as types;
 ghost use Rattle.vx_sql_parser.specs.Views.{cast_type_of, lexemes_of};
@@ -11,6 +15,7 @@ use crate::lexed::Lexed;
 use crate::types::type_named;
 use std::fmt;
 use std::fmt::{Display, Formatter, Write};
+use vx_dtype::{TimeUnit, write_quoted};
 use vx_source_types::Token;
 use vx_sql::{Dialect, has_decimals};
 
@@ -23,6 +28,15 @@ pub(crate) enum CastType {
     DoublePrecision,
     /// Decimals of so many digits, so many of them behind the point.
     Decimals(u64, u64),
+    /// Instants.
+    Instants {
+        /// What they are counted in.
+        unit: TimeUnit,
+        /// Whether they have a zone, which is UTC.
+        zoned: bool,
+        /// Whether a bracket behind the word says the unit.
+        sized: bool,
+    },
 }
 
 impl Display for CastType {
@@ -37,7 +51,29 @@ impl Display for CastType {
             CastType::Named(name) => f.write_str(name),
             CastType::DoublePrecision => f.write_str("f64"),
             CastType::Decimals(precision, scale) => write!(f, "decimal({precision}, {scale})"),
+            CastType::Instants { unit, zoned, .. } => write_instants(*unit, *zoned, f),
         }
+    }
+}
+
+// Writes the type of instants in that unit, in UTC or without a zone.
+fn write_instants<W: Write>(unit: TimeUnit, zoned: bool, f: &mut Formatter<W>) -> fmt::Result
+    ensures { WritesOnOk W.write_str_gives f.old result (atomic_text (timestamp unit (types.zone zoned))) f.new }
+{
+    f.write_str("timestamp(")?;
+    f.write_str(unit.as_str())?;
+    write_zone(zoned, f)?;
+    f.write_str(")")
+}
+
+fn write_zone<W: Write>(zoned: bool, f: &mut Formatter<W>) -> fmt::Result
+    ensures { WritesOnOk W.write_str_gives f.old result (zone_text (types.zone zoned)) f.new }
+{
+    if zoned {
+        f.write_str(", ")?;
+        write_quoted("UTC", '"', f)
+    } else {
+        Ok(())
     }
 }
 
@@ -56,6 +92,7 @@ impl CastType {
             CastType::Named(_) => 1,
             CastType::DoublePrecision => 2,
             CastType::Decimals(..) => 6,
+            CastType::Instants { sized, .. } => { if sized { 4 } else { 1 } }
         }
     }
 
@@ -65,7 +102,7 @@ impl CastType {
     {
         match self {
             CastType::Named(own) => is(own, name),
-            CastType::DoublePrecision | CastType::Decimals(..) => false,
+            CastType::DoublePrecision | CastType::Decimals(..) | CastType::Instants { .. } => false,
         }
     }
 }
@@ -79,6 +116,8 @@ pub(crate) fn type_at(dialect: Dialect, tokens: &[Lexed], i: usize) -> Option<Ca
         decimals_at(tokens, i + 1)
     } else if is_double_precision(dialect, tokens, i) {
         Some(CastType::DoublePrecision)
+    } else if is_sized(dialect, tokens, i) {
+        instants_at(tokens, i)
     } else {
         word_type(dialect, word_at(tokens, i))
     }
@@ -101,9 +140,123 @@ fn is_double_precision(dialect: Dialect, tokens: &[Lexed], i: usize) -> bool
 fn word_type(dialect: Dialect, word: Option<&str>) -> Option<CastType>
     ensures { option_map cast_type_of result ≡ types.word_type dialect (option_map (λ w. w.now) word.entry) }
 {
-    match type_named(dialect, word?) {
+    let word = word?;
+    if let Some(instants) = instants_named(dialect, word) {
+        return Some(instants);
+    }
+    match type_named(dialect, word) {
         Some(name) => Some(CastType::Named(name)),
         None => None,
+    }
+}
+
+// The instants that a word says.
+pub(crate) fn instants_named(dialect: Dialect, word: &str) -> Option<CastType>
+    ensures { option_map cast_type_of result ≡ types.instants_named dialect word.now }
+{
+    if has_zone(dialect, word) {
+        return Some(CastType::Instants {
+            unit: TimeUnit::Microseconds,
+            zoned: true,
+            sized: false,
+        });
+    }
+    match clock_unit(dialect, word) {
+        Some(unit) => Some(CastType::Instants {
+            unit,
+            zoned: false,
+            sized: false,
+        }),
+        None => None,
+    }
+}
+
+// Whether the word is the engine's for instants with a zone, which are in microseconds.
+fn has_zone(dialect: Dialect, word: &str) -> bool
+    ensures { result ≡ types.has_zone dialect word.now }
+{
+    match dialect {
+        Dialect::Postgres | Dialect::DuckDb => is(word, "timestamptz"),
+        Dialect::Spark => is(word, "timestamp_ltz"),
+        Dialect::Sqlite | Dialect::ClickHouse => false,
+    }
+}
+
+// The unit that the engine's word for instants without a zone says.
+fn clock_unit(dialect: Dialect, word: &str) -> Option<TimeUnit>
+    ensures { result ≡ types.clock_unit dialect word.now }
+{
+    match dialect {
+        Dialect::Postgres if is(word, "timestamp") => Some(TimeUnit::Microseconds),
+        Dialect::Spark if is_one_of(word, &["timestamp", "timestamp_ntz"]) => {
+            Some(TimeUnit::Microseconds)
+        }
+        Dialect::DuckDb => duckdb_unit(word),
+        _ => None,
+    }
+}
+
+fn duckdb_unit(word: &str) -> Option<TimeUnit>
+    ensures { result ≡ types.clock_unit DuckDb word.now }
+{
+    if is(word, "timestamp") {
+        Some(TimeUnit::Microseconds)
+    } else if is(word, "timestamp_s") {
+        Some(TimeUnit::Seconds)
+    } else if is(word, "timestamp_ms") {
+        Some(TimeUnit::Milliseconds)
+    } else if is(word, "timestamp_ns") {
+        Some(TimeUnit::Nanoseconds)
+    } else {
+        None
+    }
+}
+
+// Whether a word for PostgreSQL's instants stands there before a bracket.
+fn is_sized(dialect: Dialect, tokens: &[Lexed], i: usize) -> bool
+    requires { i < 16 }
+    ensures { result ≡ types.is_sized dialect (lexemes_of tokens.now) i }
+{
+    match dialect {
+        Dialect::Postgres => {
+            (is_word_at(tokens, i, "timestamp") || is_word_at(tokens, i, "timestamptz"))
+                && opens_at(tokens, i + 1)
+        }
+        Dialect::Sqlite | Dialect::DuckDb | Dialect::Spark | Dialect::ClickHouse => false,
+    }
+}
+
+// Instants of as many digits as stand in the bracket behind the word at that place.
+fn instants_at(tokens: &[Lexed], i: usize) -> Option<CastType>
+    requires { i < 16 }
+    ensures { option_map cast_type_of result ≡ types.instants_at (lexemes_of tokens.now) i }
+{
+    if !closes_at(tokens, i + 3) {
+        return None;
+    }
+    match unit_in(count_in(token_at(tokens, i + 2))) {
+        Some(unit) => Some(CastType::Instants {
+            unit,
+            zoned: is_word_at(tokens, i, "timestamptz"),
+            sized: true,
+        }),
+        None => None,
+    }
+}
+
+// The unit of so many digits behind the point of a second.
+fn unit_in(digits: Option<u64>) -> Option<TimeUnit>
+    ensures { result ≡ types.unit_in digits }
+{
+    let digits = digits?;
+    if digits == 0 {
+        Some(TimeUnit::Seconds)
+    } else if digits == 3 {
+        Some(TimeUnit::Milliseconds)
+    } else if digits == 6 {
+        Some(TimeUnit::Microseconds)
+    } else {
+        None
     }
 }
 

@@ -1,5 +1,6 @@
 // Casts, of literals and others.
-ghost use Rattle.std.specs.Prelude.{◌≡◌, ◌<◌, ◌≤◌, IfOk, IfSome, option_map, string_bytes};
+ghost use Rattle.std.specs.Prelude.{◌≡◌, ◌<◌, ◌≤◌, ◌++◌, IfOk, IfSome, codes, option_map, string_bytes};
+ghost use Rattle.vx_dtype.specs.Quotes.{between_quotes};
 ghost use Rattle.vx_source_types.specs.Views.{lexeme_of};
 ghost use Rattle.vx_sql_parser.specs.CastTypes as types;
 ghost use Rattle.vx_sql_parser.specs.Values as values;
@@ -101,10 +102,22 @@ fn has_points(dtype: CastType) -> bool
     match dtype {
         CastType::Named(name) => is_one_of(name, &["f32", "f64"]),
         CastType::DoublePrecision | CastType::Decimals(..) => true,
+        CastType::Instants { .. } => false,
     }
 }
 
-// A number of that type, of which none is a day.
+// Whether values of the type are days or instants.
+fn is_dated(dtype: CastType) -> bool
+    ensures { result ≡ values.is_dated (cast_type_of dtype) }
+{
+    match dtype {
+        CastType::Named(_) => dtype.is_called("date"),
+        CastType::DoublePrecision | CastType::Decimals(..) => false,
+        CastType::Instants { .. } => true,
+    }
+}
+
+// A number of that type, of which none is a day or an instant.
 fn typed_number(
     alloc: Global,
     dialect: Dialect,
@@ -114,7 +127,7 @@ fn typed_number(
 ) -> Result<Option<String>, AllocError>
     ensures { IfOk result (λ t. option_map string_bytes t ≡ values.typed_number dialect sign.now n (cast_type_of dtype)) }
 {
-    if dtype.is_called("date") {
+    if is_dated(dtype) {
         return Ok(None);
     }
     if is_of_all(dialect, dtype) {
@@ -156,6 +169,29 @@ fn text_literal(
 pub(crate) fn text_of(alloc: Global, text: &str, dtype: CastType) -> Result<String, AllocError>
     ensures { IfOk result (λ s. string_bytes s ≡ values.text_of (cast_type_of dtype) text.now) }
 {
+    match dtype {
+        CastType::Instants { .. } => instant_of(alloc, text, dtype),
+        CastType::Named(_) | CastType::DoublePrecision | CastType::Decimals(..) => {
+            quoted_before(alloc, text, dtype)
+        }
+    }
+}
+
+// The text of an instant before its type: that of a day alone, which has ten bytes, is its midnight.
+fn instant_of(alloc: Global, text: &str, dtype: CastType) -> Result<String, AllocError>
+    ensures { IfOk result (λ s. string_bytes s ≡ between_quotes 34 (values.instant_said text.now) ++ (codes "::" ++ types.type_source (cast_type_of dtype))) }
+{
+    if text.len() == 10 {
+        let midnight = format!(in alloc; "{text}T00:00:00")?;
+        quoted_before(alloc, midnight.as_str(), dtype)
+    } else {
+        quoted_before(alloc, text, dtype)
+    }
+}
+
+fn quoted_before(alloc: Global, text: &str, dtype: CastType) -> Result<String, AllocError>
+    ensures { IfOk result (λ s. string_bytes s ≡ between_quotes 34 text.now ++ (codes "::" ++ types.type_source (cast_type_of dtype))) }
+{
     let text = QuotedText(text);
     format!(in alloc; "{text}::{dtype}")
 }
@@ -170,14 +206,14 @@ fn is_bytes_type(dialect: Dialect, dtype: CastType) -> bool
     }
 }
 
-// Whether values of the type stand as texts before it: days and decimals.
+// Whether values of the type stand as texts before it: days, instants and decimals.
 fn has_texts(dtype: CastType) -> bool
     ensures { result ≡ values.has_texts (cast_type_of dtype) }
 {
     match dtype {
         CastType::Named(_) => dtype.is_called("date"),
         CastType::DoublePrecision => false,
-        CastType::Decimals(..) => true,
+        CastType::Decimals(..) | CastType::Instants { .. } => true,
     }
 }
 

@@ -3,11 +3,11 @@ ghost use Rattle.std.specs.Prelude.{◌≡◌, option_map};
 ghost use Rattle.vx_source_types.specs.Characters.{is_word};
 ghost use Rattle.vx_sql_parser.specs.Values as values;
 ghost use Rattle.vx_sql_parser.specs.RuleViews.{Answers};
-ghost use Rattle.vx_sql_parser.specs.Views.{lexemes_of};
+ghost use Rattle.vx_sql_parser.specs.Views.{cast_type_of, lexemes_of};
 ghost use Rattle.std.specs.List.{list_all};
 
 use crate::ahead::{is_dot_at, text_at};
-use crate::cast_types::CastType;
+use crate::cast_types::{CastType, instants_named};
 use crate::casts::text_of;
 use crate::keywords::is;
 use crate::lexed::Lexed;
@@ -69,7 +69,7 @@ pub(crate) fn sign_of(negative: bool) -> &'static str
     if negative { "-" } else { "" }
 }
 
-// A word before a text: an `X` says that bytes are spelled by it, and `date` that it is a day.
+// A word before a text: an `X` says that bytes are spelled by it, `date` that it is a day, and `timestamp` an instant.
 pub(crate) fn typed_text(
     alloc: Global,
     dialect: Dialect,
@@ -81,22 +81,19 @@ pub(crate) fn typed_text(
     if has_octets(dialect) && is(word, "x") {
         octets_said(alloc, 1, text_at(behind, 0))
     } else if has_days(dialect) && is(word, "date") {
-        day_said(alloc, text_at(behind, 0))
+        text_said(alloc, Some(CastType::Named("date")), text_at(behind, 0))
     } else {
-        Err(Stop::Unread(Unread::TypedText))
+        text_said(alloc, instants_named(dialect, word), text_at(behind, 0))
     }
 }
 
-// A day by its text.
-fn day_said(alloc: Global, text: Option<&str>) -> Result<Step, Stop>
-    ensures { Answers result (values.day_said (option_map (λ t. t.now) text.entry)) }
+// The text as one of that type, if there are both.
+fn text_said(alloc: Global, dtype: Option<CastType>, text: Option<&str>) -> Result<Step, Stop>
+    ensures { Answers result (values.text_said (option_map cast_type_of dtype) (option_map (λ t. t.now) text.entry)) }
 {
-    match text {
-        Some(text) => {
-            let day = text_of(alloc, text, CastType::Named("date"))?;
-            Ok(stepped(day, Change::Stays, 1))
-        }
-        None => Err(Stop::Unread(Unread::TypedText)),
+    match (dtype, text) {
+        (Some(dtype), Some(text)) => Ok(stepped(text_of(alloc, text, dtype)?, Change::Stays, 1)),
+        _ => Err(Stop::Unread(Unread::TypedText)),
     }
 }
 

@@ -31,7 +31,7 @@ pub enum Unread {
     /// A word of SQL that has no meaning here.
     #[error("this word of SQL isn't read; a name that is spelled so stands between the engine's quotes")]
     Word,
-    /// A word before a text, as in `timestamp '2024-01-31 10:15:30'`.
+    /// A word before a text, as in `time '10:15:30'`.
     #[error("no value of this type is read; a text stands alone")]
     TypedText,
     /// A name with another in front.
