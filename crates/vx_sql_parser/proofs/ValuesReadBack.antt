@@ -278,7 +278,7 @@ decimals_read ClickHouse p s i has k l h = cc
 -- ---- instants
 
 -- the text of an instant is longer than that of a day
-beyond_ten : (n : ℕ) → (suc (10 + n) == 10) ≡ false
+beyond_ten : (n : ℕ) → (suc (suc (suc (suc (suc (suc (suc (suc (suc (suc (suc n)))))))))) == 10) ≡ false
 beyond_ten n = grind (arith, nat_tests)
 
 instant_kept : (u : TimeUnit) (z : Option Name) (i : ℤ) → IsSome (civil_at (int_div_euclid i (pos (units_a_day u)))) → instant_said (instant_text u z i) ≡ instant_text u z i
