@@ -23,7 +23,7 @@ pub fn date(text: &str) -> VortexResult<Scalar>
 /// `RowMisfit` (18) and row 0 a text that is of no instant in the years 1 to 9999, has an offset or a `Z` where the
 /// type has no zone, has none where it has one, or has a part of a second that the unit hasn't. Takes no memory.
 pub fn timestamp(text: &str, t: TimestampType) -> VortexResult<Scalar>
-    ensures { Returns (λ s. s) result (instant_said t.entry text.now) }
+    ensures { Returns (λ s. s) result (instant_said t text.now) }
 {
     match read_instant(text.as_bytes(), &t) {
         Some(instant) => {
