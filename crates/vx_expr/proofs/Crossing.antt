@@ -7,6 +7,7 @@ use Rattle.vx_dtype.proofs.dtype.DType.TheLaws.TheKnot as types
 use Rattle.vx_dtype.specs.contracts.dtype.DType as DType
 use Rattle.vx_dtype.proofs.names.FieldName.TheSendSync as name
 use Rattle.vx_dtype.proofs.names.FieldNames.TheSendSync as names
+use Rattle.vx_floats.proofs.float.Float.TheSendSync as float
 use Rattle.vx_value.proofs.value.Value.TheLaws.TheKnot as values
 use Rattle.vx_fn.specs.contracts.function.ScalarFnRef as ScalarFnRef
 use Rattle.vx_tree.specs.contracts.bound.BoundExpression as BoundExpression
@@ -23,10 +24,10 @@ pub type_sync : IsSync (DType.the_field).row
 type_sync = search (sendable, heap.crosses, names.the_send, names.the_sync, types.crosses_both) depth 40 fits 100000
 
 function_send : IsSend (ScalarFnRef.the_field).row
-function_send = search (sendable, heap.crosses, maps.crosses, name.the_send, names.the_send, names.the_sync, types.crosses_both, values.crosses_both) depth 40 fits 100000
+function_send = search (sendable, heap.crosses, maps.crosses, name.the_send, names.the_send, names.the_sync, types.crosses_both, float.the_send, float.the_sync, values.crosses_both) depth 40 fits 100000
 
 function_sync : IsSync (ScalarFnRef.the_field).row
-function_sync = search (sendable, heap.crosses, maps.crosses, name.the_sync, names.the_send, names.the_sync, types.crosses_both, values.crosses_both) depth 40 fits 100000
+function_sync = search (sendable, heap.crosses, maps.crosses, name.the_sync, names.the_send, names.the_sync, types.crosses_both, float.the_send, float.the_sync, values.crosses_both) depth 40 fits 100000
 
 -- ---- trees, alone and as fields
 
