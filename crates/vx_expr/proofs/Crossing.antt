@@ -8,7 +8,9 @@ use Rattle.vx_dtype.specs.contracts.dtype.DType as DType
 use Rattle.vx_dtype.proofs.names.FieldName.TheSendSync as name
 use Rattle.vx_dtype.proofs.names.FieldNames.TheSendSync as names
 use Rattle.vx_floats.proofs.float.Float.TheSendSync as float
+use Rattle.vx_floats.specs.contracts.float.Float as Float
 use Rattle.vx_value.proofs.value.Value.TheLaws.TheKnot as values
+use Rattle.vx_value.specs.contracts.value.Value as Value
 use Rattle.vx_fn.specs.contracts.function.ScalarFnRef as ScalarFnRef
 use Rattle.vx_tree.specs.contracts.bound.BoundExpression as BoundExpression
 use Rattle.vx_tree.proofs.bound.BoundExpression.TheLaws.TheKnot as bounds
@@ -23,11 +25,23 @@ type_send = search (sendable, heap.crosses, names.the_send, names.the_sync, type
 pub type_sync : IsSync (DType.the_field).row
 type_sync = search (sendable, heap.crosses, names.the_send, names.the_sync, types.crosses_both) depth 40 fits 100000
 
+float_send : IsSend (Float.the_field).row
+float_send = search (sendable, float.the_send, float.the_sync) depth 40 fits 100000
+
+float_sync : IsSync (Float.the_field).row
+float_sync = search (sendable, float.the_send, float.the_sync) depth 40 fits 100000
+
+value_send : IsSend (Value.the_field).row
+value_send = search (sendable, heap.crosses, float_send, float_sync, values.crosses_both) depth 40 fits 100000
+
+value_sync : IsSync (Value.the_field).row
+value_sync = search (sendable, heap.crosses, float_send, float_sync, values.crosses_both) depth 40 fits 100000
+
 function_send : IsSend (ScalarFnRef.the_field).row
-function_send = search (sendable, heap.crosses, maps.crosses, name.the_send, names.the_send, names.the_sync, types.crosses_both, float.the_send, float.the_sync, values.crosses_both) depth 40 fits 100000
+function_send = search (sendable, heap.crosses, maps.crosses, name.the_send, names.the_send, names.the_sync, type_send, type_sync, value_send, value_sync) depth 40 fits 100000
 
 function_sync : IsSync (ScalarFnRef.the_field).row
-function_sync = search (sendable, heap.crosses, maps.crosses, name.the_sync, names.the_send, names.the_sync, types.crosses_both, float.the_send, float.the_sync, values.crosses_both) depth 40 fits 100000
+function_sync = search (sendable, heap.crosses, maps.crosses, name.the_sync, names.the_send, names.the_sync, type_send, type_sync, value_send, value_sync) depth 40 fits 100000
 
 -- ---- trees, alone and as fields
 
