@@ -33,7 +33,7 @@ compare() {
     comm -12 "$room/given" "$room/left" >"$room/kept"
     diff "$room/answers" "$room/kept" >"$room/differ" || true
     wrong=$(awk '/^[<>]/ { print $2 }' "$room/differ" | sort -u | wc -l)
-    run=$(grep -c '^plan [0-9]*$' "$room/said" || true)
+    run=$(grep '^plan [0-9]*$' "$room/said" | sort -u | wc -l)
     given=$(wc -l <"$room/given")
     echo "cluster: $1: $run expressions over two servers, $given rows came back, $(wc -l <"$room/kept") kept, $wrong expressions differ"
     [ "$wrong" -eq 0 ] || head -n 10 "$room/differ"
@@ -95,13 +95,18 @@ run_postgres() {
         echo "cluster: postgres: isn't installed here, and couldn't be: nothing was run"
         return 0
     }
+    # Databases that compare texts by the rules of a language show whether a condition that is handed on goes by bytes.
     for name in one two third; do
-        make_database "$name" && start_postgres "$name" || {
+        make_database "$name" --locale-provider=icu --icu-locale=en-US || make_database "$name" || cat "$room/made"
+        start_postgres "$name" || {
             echo "cluster: postgres: is installed here, and doesn't start: nothing was run"
             return 0
         }
     done
     write_plans postgres
+    # postgres_fdw hands on an explicit collation that is the column's own, and structs of a type that belongs to an
+    # extension which the server's options name.
+    sed -i 's/" text/" text COLLATE "C"/g; /^CREATE TYPE pair /a ALTER EXTENSION plpgsql ADD TYPE pair;' "$room/columns"
     for name in one two; do
         ask_postgres "$name" -f "$room/columns"
     done
@@ -110,7 +115,7 @@ run_postgres() {
         echo "CREATE EXTENSION postgres_fdw;"
         part=0
         for name in one two; do
-            echo "CREATE SERVER $name FOREIGN DATA WRAPPER postgres_fdw OPTIONS (host '$room/$name', dbname 'postgres');"
+            echo "CREATE SERVER $name FOREIGN DATA WRAPPER postgres_fdw OPTIONS (host '$room/$name', dbname 'postgres', extensions 'plpgsql');"
             echo "CREATE USER MAPPING FOR postgres SERVER $name OPTIONS (user 'postgres');"
             echo "CREATE FOREIGN TABLE spread_$name PARTITION OF spread FOR VALUES WITH (MODULUS 2, REMAINDER $part) SERVER $name OPTIONS (schema_name 'public', table_name 't');"
             part=$((part + 1))
@@ -121,13 +126,16 @@ run_postgres() {
     echo "cluster: postgres: $(ask_postgres one -c 'SELECT count(*) FROM t') rows on one server, $(ask_postgres two -c 'SELECT count(*) FROM t') on the other"
     ask_postgres third -f "$room/script" >"$room/said" 2>"$room/errors" || true
     compare postgres
-    # What is handed on and what is kept has to be what one of the two filters its own table by. A comparison of texts in
-    # the collation "C" is kept, since postgres_fdw hands on no collation, and so are COALESCE and structs.
+    # What is handed on and what is kept has to be what one of the two filters its own table by. COALESCE and fields of
+    # structs are kept.
     sed 's/ FROM "spread" WHERE / FROM "t" WHERE /' "$room/script" >"$room/alone"
     ask_postgres one -f "$room/alone" >"$room/wanted"
     handed_on postgres "$room/said" "each server"
     whole=$(sed -n '1s/^\([0-9]*\) .*/\1/p' "$room/told")
-    [ "$whole" -ge $((count / 4)) ] || failed=$((failed + 1))
+    [ "$whole" -ge $((count / 2)) ] || failed=$((failed + 1))
+    # Each of the two takes the whole statement, if it is asked itself.
+    ask_postgres two -f "$room/alone" | cat "$room/wanted" - >"$room/said"
+    compare "postgres, each server asked by itself"
 }
 
 run_clickhouse

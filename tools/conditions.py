@@ -12,17 +12,18 @@ WANTED and SAID have the plans that EXPLAIN VERBOSE told of the statements, each
 has the table itself, SAID of one that hands on to two others. What a plan of WANTED filters by has to be, conjunct by conjunct,
 what that of SAID hands on to each server or keeps as its filter. Brackets, white space, names of tables, casts and quotes are passed over.
 
-Prints how many statements came with their whole condition, and with a part of it, and a line for each that came otherwise.
+Prints how many statements came with their whole condition, and with a part of it, how many came not at all, since no row
+can meet them, and a line for each that came otherwise.
 Ends with status 1 if any did."""
 import collections
 import re
 import sys
 
-# A name, a text, a word or number, or another character.
-TOKEN = re.compile(r"\"(?:[^\"]|\"\")*\"|E?'(?:[^']|'')*'|\w+|\s+|.", re.DOTALL)
+# A name, a text, a number, a word, or another character.
+TOKEN = re.compile(r"\"(?:[^\"]|\"\")*\"|E?'(?:[^']|'')*'|\d+\.\d+|\w+|\s+|.", re.DOTALL)
 # What PostgreSQL puts before a column, and behind a value.
 TABLE = re.compile(r"\b(?:spread_\d|spread|t)\.")
-CAST = re.compile(r"::\w+")
+CAST = re.compile(r"::(?:\w+\.)?\w+(?:\(\d+,\d+\))?")
 
 
 def clickhouse(wanted, came):
@@ -33,7 +34,7 @@ def clickhouse(wanted, came):
         for file in (wanted, came)
     )
     others = [f"wanted: {text}" for text in wanted - came] + [f"came: {text}" for text in came - wanted]
-    return (wanted & came).total(), 0, others
+    return (wanted & came).total(), 0, 0, others
 
 
 def plans(file):
@@ -66,12 +67,13 @@ def plain(condition):
     """The condition without brackets, white space, casts, and quotes of numbers, and with backslashes undoubled."""
     tokens = [token for token in TOKEN.findall(CAST.sub("", condition)) if token not in "()" and not token.isspace()]
     tokens = [token[1:].replace("\\\\", "\\") if token.startswith("E'") else token for token in tokens]
-    return re.sub(r"'(-?\d+)'", r"\1", " ".join(tokens)).replace("- ", "-")
+    return re.sub(r"'(-?\d+(?:\.\d+)?)'", r"\1", " ".join(tokens)).replace("- ", "-")
 
 
 def postgres(wanted, said):
-    """How many statements came whole to both servers and how many in part, and those of which a conjunct is lost."""
-    whole, part, others = 0, 0, []
+    """How many statements came whole to both servers and how many in part, how many ask for no row, and those of which
+    a conjunct is lost."""
+    whole, part, unasked, others = 0, 0, 0, []
     wanted, said = plans(wanted), plans(said)
     for number, plan in wanted.items():
         filters = conjuncts("".join(re.findall(r"Filter: (.*)", plan, re.DOTALL)).strip())
@@ -83,15 +85,16 @@ def postgres(wanted, said):
                 others.append(f"plan {number}: wanted {dict(filters - kept - came)}, came {dict(kept + came - filters)}")
         whole += bool(scans) and not kept
         part += bool(scans) and bool(kept) and len(came) > 1
-    return whole, part, others
+        unasked += not scans
+    return whole, part, unasked, others
 
 
 def main():
     if len(sys.argv) != 4 or sys.argv[1] not in ("clickhouse", "postgres"):
         sys.exit(__doc__)
     compare = {"clickhouse": clickhouse, "postgres": postgres}[sys.argv[1]]
-    whole, part, others = compare(*sys.argv[2:])
-    print(f"{whole} statements with the whole condition, {part} with a part of it, {len(others)} otherwise")
+    whole, part, unasked, others = compare(*sys.argv[2:])
+    print(f"{whole} statements with the whole condition, {part} with a part of it, {unasked} not at all, {len(others)} otherwise")
     for text in others[:10]:
         print(text)
     return bool(others)
