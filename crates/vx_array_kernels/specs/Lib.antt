@@ -2,7 +2,9 @@ pub mod Asked
 pub mod ByteRows
 pub mod Choices
 pub mod Connected
+pub mod FloatSums
 pub mod Found
+pub mod Keys
 pub mod Likeness
 pub mod Reach
 pub mod Sums

@@ -16,6 +16,7 @@ ghost use Rattle.vx_array_kernels.specs.Found.{Finds, IsLong, pair_rows};
 ghost use Rattle.vx_array_kernels.specs.Truths.{both_rows};
 
 use crate::columns::compare_columns;
+use crate::float_comparison::{compare_floats, format_of};
 use crate::logic::{Connective, connect};
 use crate::pair::Pair;
 use crate::widths::by_width;
@@ -82,9 +83,26 @@ pub fn between(
     connect(alloc, Connective::And, both)
 }
 
-/// The comparison of two columns. There is an answer where both are numbers in buffers of one width, and
-/// where one is one value in all rows and the other has numbers whose width has that value.
+/// The comparison of two columns. There is an answer where both are numbers in buffers of one width or of
+/// one format, and where one is one value in all rows and the other has numbers whose width or format has
+/// that value.
 pub fn compare(
+    alloc: Global,
+    comparison: Comparison,
+    pair: Pair,
+) -> Result<Option<Lanes>, AllocError>
+    requires { IsLong pair }
+    ensures { Finds (pair_rows (compared (asked comparison)) pair.entry) result }
+{
+    match format_of(pair) {
+        Some(float_type) => compare_floats(alloc, comparison, float_type, pair),
+        None => compare_whole(alloc, comparison, pair),
+    }
+}
+
+/// The comparison of two columns of whole numbers. There is an answer where both are numbers in buffers of one
+/// width, and where one is one value in all rows and the other has numbers whose width has that value.
+pub fn compare_whole(
     alloc: Global,
     comparison: Comparison,
     pair: Pair,

@@ -7,6 +7,10 @@ mod byte_rows;
 mod choices;
 mod columns;
 mod comparison;
+mod float_comparison;
+mod float_rows;
+mod float_sums;
+mod keys;
 mod likeness;
 mod logic;
 mod masks;
@@ -23,6 +27,7 @@ mod widths;
 
 pub use choices::{case_when, fill_null, zip};
 pub use comparison::{between, compare, comparison_of};
+pub use float_sums::add_floats;
 pub use likeness::like;
 pub use logic::{Connective, connect, not};
 pub use masks::mask;
