@@ -2,7 +2,8 @@
 # Runs expressions by chance in real engines: `tools/engines.sh [SEED [COUNT]]`, from seed 1 on and 5,000 of
 # them unless told otherwise. Over a table of 50 rows with nulls, SQLite, PostgreSQL and ClickHouse have to give the value of
 # the source for each row where it doesn't fault, to fail at sums that have to fail (docs/embed/ENGINES.md), and to keep
-# the rows of which a filter is true. An engine that isn't installed is installed from Debian's packages, and where
+# the rows of which a filter is true. Expressions that have no text in an engine, since it lacks days and decimals or their
+# sums, are counted by reason. An engine that isn't installed is installed from Debian's packages, and where
 # it can't be, or doesn't start, a line says so. PostgreSQL is started on a socket in a temporary folder, ClickHouse at a port
 # on loopback, and both are stopped at the end.
 # Ends with status 1 where an engine answers otherwise, and prints what.
@@ -18,7 +19,9 @@ program=$PWD/crates/vx_sql_rows/out/vx_sql_rows
 compare() {
     engine=$1
     cause=$2
-    "$program" answers "$engine" "$seed" "$count" >"$room/wanted"
+    "$program" answers "$engine" "$seed" "$count" >"$room/all"
+    grep '^[0-9]* no text: ' "$room/all" >"$room/untold" || true
+    grep -v '^[0-9]* no text: ' "$room/all" >"$room/wanted"
     failed=$(grep -c "$cause" "$room/errors" || true)
     echo "$failed statements fail" >>"$room/said"
     grep -v "$cause" "$room/errors" >"$room/others" || true
@@ -33,7 +36,9 @@ compare() {
         head -n 20 "$room/others"
         exit 1
     fi
-    echo "engines: $engine: $count expressions from seed $seed on, $(wc -l <"$room/wanted") answers, all the source's"
+    untold=$(wc -l <"$room/untold")
+    reasons=$(sed 's/^[0-9]* no text: //' "$room/untold" | sort | uniq -c | sed 's/^ *\([0-9]*\) /\1: /' | paste -s -d ';')
+    echo "engines: $engine: $count expressions from seed $seed on, $untold without a text${reasons:+ ($reasons)}, $(wc -l <"$room/wanted") answers of the others, all the source's"
 }
 
 run_sqlite() {

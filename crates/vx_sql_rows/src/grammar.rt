@@ -1,9 +1,9 @@
 // The grammar of expressions by chance: by what an expression gives, the source text of a node.
 //
-// `T`, `N`, `S`, `B` and `P` stand for expressions that give a truth value, a number, a text, bytes and a pair,
-// `X` for what the node gives, and `M` for a mask; the numbers of a row are of one type, which `#n` names. `#N`,
-// `#S`, `#B`, `#T` and `#X` stand for literals, null among them, `!N`, `!S`, `!B` and `!T` for others than null, and
-// `%S` for a pattern.
+// `T`, `N`, `S`, `B`, `D`, `C` and `P` stand for expressions that give a truth value, a number, a text, bytes, a day,
+// a decimal and a pair, `X` for what the node gives, and `M` for a mask. The numbers of a row are of one type, which
+// `#n` names, and so are its decimals, which `#c` names. `#N`, `#S`, `#B`, `#D`, `#C`, `#T` and `#X` stand for
+// literals, null among them, `!N`, `!S`, `!B`, `!D`, `!C` and `!T` for others than null, and `%S` for a pattern.
 use crate::kinds::Kind;
 
 /// Nodes that give truth values.
@@ -65,6 +65,45 @@ const TEXTS: [&str; 2] = ["fill_null(S, !S)", "cast(S as utf8?)"];
 
 const OCTETS: [&str; 2] = ["fill_null(B, !B)", "cast(B as binary?)"];
 
+const DAYS: [&str; 2] = ["fill_null(D, !D)", "cast(D as date?)"];
+
+/// Few sums, which have no text.
+const DECIMALS: [&str; 7] = [
+    "fill_null(C, !C)",
+    "fill_null(C, !C)",
+    "fill_null(C, !C)",
+    "cast(C as #c?)",
+    "cast(C as #c?)",
+    "cast(C as #c?)",
+    "(C + #C)",
+];
+
+/// Nodes over days and decimals that give truth values.
+const OF_EXACT: [&str; 22] = [
+    "(D = D)",
+    "(D != #D)",
+    "(D < D)",
+    "(D <= #D)",
+    "(#D > D)",
+    "(D >= D)",
+    "(D between #D and D)",
+    "(D < D < D)",
+    "(#D <= D < #D)",
+    "(D is null)",
+    "(D is not null)",
+    "(C = C)",
+    "(C != #C)",
+    "(C < C)",
+    "(C <= #C)",
+    "(#C > C)",
+    "(C >= C)",
+    "(C between #C and C)",
+    "(C < C < C)",
+    "(#C <= C < #C)",
+    "(C is null)",
+    "(C is not null)",
+];
+
 /// Nodes that give what their children give.
 const OF_ANY_KIND: [&str; 7] = [
     "case when T then X else X end",
@@ -96,6 +135,8 @@ impl Kind {
             Kind::Number(_) => &NUMBERS,
             Kind::Text => &TEXTS,
             Kind::Octets => &OCTETS,
+            Kind::Day => &DAYS,
+            Kind::Exact(_) => &DECIMALS,
             Kind::Pair => &["mask(P, M)"],
         }
     }
@@ -109,6 +150,14 @@ impl Kind {
                 "mask(X, M)",
             ],
             _ => &OF_ANY_KIND,
+        }
+    }
+
+    /// Nodes over days and decimals that give such values.
+    pub fn of_exact(self) -> &'static [&'static str] {
+        match self {
+            Kind::Truth => &OF_EXACT,
+            _ => &[],
         }
     }
 

@@ -2,7 +2,7 @@
 use std::alloc::{AllocError, Global};
 use vx_sql::Dialect;
 use vx_test_support::Seeds;
-use vx_types::{PType, Value};
+use vx_types::{DecimalType, PType, Value};
 
 /// What an expression gives.
 #[derive(Clone, Copy)]
@@ -11,7 +11,55 @@ pub enum Kind {
     Number(PType),
     Text,
     Octets,
+    Day,
+    Exact(Digits),
     Pair,
+}
+
+/// How many digits a decimal has.
+#[derive(Clone, Copy)]
+pub enum Digits {
+    Few,
+    Many,
+}
+
+/// The decimals of columns.
+pub const DIGITS: [Digits; 2] = [Digits::Few, Digits::Many];
+
+impl Digits {
+    // How many there are at most, and how many of them stand behind the point.
+    fn counts(self) -> (u8, u8) {
+        match self {
+            Digits::Few => (7, 2),
+            Digits::Many => (38, 10),
+        }
+    }
+
+    /// The type of such decimals.
+    pub fn decimal_type(self) -> Option<DecimalType> {
+        let (precision, scale) = self.counts();
+        DecimalType::new(precision, scale)
+    }
+
+    // The units of a decimal by chance: half of them two digits, others all that there may be.
+    fn units(self, chance: &mut Seeds) -> i128 {
+        let (precision, _) = self.counts();
+        let most = usize::from(precision);
+        let (count, least) = match chance.below(8) {
+            0 => (most, 9),
+            1 | 2 | 3 => (chance.below(most.saturating_add(1)), 0),
+            _ => (2, 0),
+        };
+        let mut units = 0i128;
+        for _ in 0..count {
+            let digit = chance.below(10).max(least);
+            units = units.saturating_mul(10).saturating_add(digit as i128);
+        }
+        match chance.below(2) {
+            0 => 0i128.saturating_sub(units),
+            _ => units,
+        }
+    }
 }
 
 /// The number types, of which SQLite has all but the last.
@@ -34,6 +82,29 @@ pub fn has_pairs(dialect: Dialect) -> bool {
     }
 }
 
+/// Whether the engine's table has days and decimals: where they have no text, they stand there as texts.
+pub fn has_exact(dialect: Dialect) -> bool {
+    match dialect {
+        Dialect::Postgres | Dialect::DuckDb | Dialect::Spark => true,
+        Dialect::Sqlite | Dialect::ClickHouse => false,
+    }
+}
+
+/// Of how many expressions one may have days and decimals: of more where those have no text.
+pub fn exact_among(dialect: Dialect) -> usize {
+    if has_exact(dialect) { 2 } else { 8 }
+}
+
+/// Days from 1970 on: 29 February of the years 4, 1600, 2000 and 2024 and days behind it, the end of February 1900
+/// and 2100, and the ends of the years that have a text.
+const DAYS: [i128; 14] = [
+    0, -1, -718_008, -135_081, -135_080, 11_016, 11_017, 19_782, 19_783, -25_509, -25_508, 47_540,
+    -719_162, 2_932_896,
+];
+
+/// The days before and behind those that have a text.
+const FAR_DAYS: [i128; 2] = [-719_163, 2_932_897];
+
 /// Characters of texts and patterns: quotes, signs of patterns, letters in both cases, and others.
 const CHARACTERS: [char; 28] = [
     'a', 'A', '%', 'b', 'B', 'z', 'Z', 'é', 'É', 'ß', '😀', '_', '_', '\\', '\\', '\'', '"', '`',
@@ -53,6 +124,9 @@ impl Kind {
                     ["x", "`X``x\\ \n1`"]
                 }
             },
+            Kind::Day => ["d", "`the day`"],
+            Kind::Exact(Digits::Few) => ["few", "fewn"],
+            Kind::Exact(Digits::Many) => ["many", "manyn"],
             Kind::Pair => ["p", "q"],
             Kind::Number(p) => match p {
                 PType::U8 => ["u8", "u8n"],
@@ -73,6 +147,9 @@ impl Kind {
             Kind::Truth => "bool",
             Kind::Text => "utf8",
             Kind::Octets => "binary",
+            Kind::Day => "date",
+            Kind::Exact(Digits::Few) => "decimal(7, 2)",
+            Kind::Exact(Digits::Many) => "decimal(38, 10)",
             Kind::Pair => "{f=i32?, g=utf8?}",
             Kind::Number(p) => p.as_str(),
         }
@@ -85,6 +162,8 @@ impl Kind {
             Kind::Number(p) => Ok(Value::Int(number(p, chance))),
             Kind::Text => Ok(Value::Utf8(text(alloc, chance)?)),
             Kind::Octets => Ok(Value::Binary(octets(alloc, chance)?)),
+            Kind::Day => Ok(Value::Int(day(chance))),
+            Kind::Exact(digits) => Ok(Value::Int(digits.units(chance))),
             Kind::Pair => {
                 let number = Value::Int(number(PType::I32, chance));
                 let text = Value::Utf8(text(alloc, chance)?);
@@ -115,6 +194,22 @@ fn number(p: PType, chance: &mut Seeds) -> i128 {
         1 => greatest.saturating_sub(near),
         2 if least < 0 => 0i128.saturating_sub(near),
         _ => chance.below(100) as i128,
+    }
+}
+
+// One of those days, one of a few beside another, or one of eleven centuries.
+fn day(chance: &mut Seeds) -> i128 {
+    match chance.below(4) {
+        0 => 19_770i128.saturating_add(chance.below(30) as i128),
+        1 => (-200_000i128).saturating_add(chance.below(400_000) as i128),
+        _ => {
+            let days: &[i128] = match chance.below(16) {
+                0 => &FAR_DAYS,
+                _ => &DAYS,
+            };
+            let number = chance.below(days.len());
+            days.get(number).copied().unwrap_or(0)
+        }
     }
 }
 

@@ -14,6 +14,7 @@ mod maker;
 mod plans;
 mod rows;
 mod shown;
+mod untold;
 
 use anyhow::{Context, Result, anyhow};
 use cases::{Cases, make_cases};

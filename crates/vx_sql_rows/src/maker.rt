@@ -1,6 +1,6 @@
 // Expressions by chance, as source texts.
 use crate::grammar::MASKS;
-use crate::kinds::{Kind, NUMBERS, has_pairs, text};
+use crate::kinds::{DIGITS, Digits, Kind, NUMBERS, exact_among, has_pairs};
 use std::alloc::{AllocError, Global};
 use vx_source::ScalarText;
 use vx_sql::Dialect;
@@ -22,6 +22,8 @@ struct Node {
     kind: Kind,
     // The type of the row's numbers.
     number: PType,
+    // That of its decimals.
+    digits: Digits,
 }
 
 /// Makes expressions by chance for an engine.
@@ -30,6 +32,8 @@ pub struct Maker {
     alloc: Global,
     dialect: Dialect,
     pub seeds: Seeds,
+    // Whether the expression may have days and decimals.
+    is_exact: bool,
 }
 
 impl Maker {
@@ -38,17 +42,33 @@ impl Maker {
             alloc,
             dialect,
             seeds: Seeds::new(seed),
+            is_exact: false,
         }
     }
 
-    /// What an expression gives, half of them truth values.
+    /// Chooses what the next expression gives, half of them truth values, and whether it may have days
+    /// and decimals.
     pub fn kind(&mut self) -> Kind {
+        self.choose_exact();
         match self.seeds.below(8) {
+            0 if self.is_exact => Kind::Day,
             0 => Kind::Text,
+            1 if self.is_exact => Kind::Exact(self.digits()),
             1 => Kind::Octets,
             2 | 3 => Kind::Number(self.number_type()),
             _ => Kind::Truth,
         }
+    }
+
+    /// Chooses whether the next expression may have days and decimals.
+    pub fn choose_exact(&mut self) {
+        self.is_exact = self.seeds.below(exact_among(self.dialect)) == 0;
+    }
+
+    // The digits of a row's decimals.
+    fn digits(&mut self) -> Digits {
+        let number = self.seeds.below(DIGITS.len());
+        DIGITS.get(number).copied().unwrap_or(Digits::Few)
     }
 
     // A number type that the engine has.
@@ -85,12 +105,17 @@ impl Maker {
         let row = self.row(kind);
         let number = match kind {
             Kind::Number(p) => p,
-            Kind::Truth | Kind::Text | Kind::Octets | Kind::Pair => self.number_type(),
+            _ => self.number_type(),
+        };
+        let digits = match kind {
+            Kind::Exact(digits) => digits,
+            _ => self.digits(),
         };
         let node = Node {
             below,
             kind,
             number,
+            digits,
         };
         for piece in row.split_inclusive(MARKS) {
             let (word, mark) = parted(piece, &MARKS);
@@ -107,6 +132,10 @@ impl Maker {
         let over_pairs = kind.of_pairs();
         if has_pairs(self.dialect) && !over_pairs.is_empty() && self.seeds.below(8) == 0 {
             return self.seeds.pick(over_pairs);
+        }
+        let over_exact = kind.of_exact();
+        if self.is_exact && !over_exact.is_empty() && self.seeds.below(3) == 0 {
+            return self.seeds.pick(over_exact);
         }
         match self.seeds.below(3) {
             0 => self.seeds.pick(kind.of_any_kind()),
@@ -126,10 +155,13 @@ impl Maker {
             "N" => self.push_node(node.below, Kind::Number(node.number), text),
             "S" => self.push_node(node.below, Kind::Text, text),
             "B" => self.push_node(node.below, Kind::Octets, text),
+            "D" => self.push_node(node.below, Kind::Day, text),
+            "C" => self.push_node(node.below, Kind::Exact(node.digits), text),
             "P" => self.push_node(node.below, Kind::Pair, text),
             "X" => self.push_node(node.below, node.kind, text),
             "M" => self.push_mask(text),
             "#n" => text.push_str(node.number.as_str()),
+            "#c" => text.push_str(Kind::Exact(node.digits).type_text()),
             "%S" => self.push_pattern(text),
             _ => self.push_leaf(node, word, text),
         }
@@ -157,16 +189,21 @@ impl Maker {
     // A literal, or a word of the source text.
     fn push_leaf(&mut self, node: Node, word: &str, text: &mut String) -> Result<(), AllocError> {
         let number = Kind::Number(node.number);
+        let decimal = Kind::Exact(node.digits);
         match word {
             "#T" => self.push_literal(Kind::Truth, text),
             "#N" => self.push_literal(number, text),
             "#S" => self.push_literal(Kind::Text, text),
             "#B" => self.push_literal(Kind::Octets, text),
+            "#D" => self.push_literal(Kind::Day, text),
+            "#C" => self.push_literal(decimal, text),
             "#X" => self.push_literal(node.kind, text),
             "!T" => self.push_value(Kind::Truth, text),
             "!N" => self.push_value(number, text),
             "!S" => self.push_value(Kind::Text, text),
             "!B" => self.push_value(Kind::Octets, text),
+            "!D" => self.push_value(Kind::Day, text),
+            "!C" => self.push_value(decimal, text),
             _ => text.push_str(word),
         }
     }
@@ -198,7 +235,10 @@ impl Maker {
         value: Value,
         text: &mut String,
     ) -> Result<(), AllocError> {
-        let Ok(scalar) = Scalar::try_new(flat_type(kind), value) else {
+        let Some(dtype) = flat_type(kind) else {
+            return text.push_str("null::bool?");
+        };
+        let Ok(scalar) = Scalar::try_new(dtype, value) else {
             return text.push_str("null::bool?");
         };
         let shown = ScalarText(&scalar);
@@ -208,11 +248,15 @@ impl Maker {
 }
 
 // The type of such values, without null; none of pairs.
-fn flat_type(kind: Kind) -> DType {
+fn flat_type(kind: Kind) -> Option<DType> {
+    let plain = Nullability::NonNullable;
     match kind {
-        Kind::Truth | Kind::Pair => DType::Bool(Nullability::NonNullable),
-        Kind::Number(p) => DType::Primitive(p, Nullability::NonNullable),
-        Kind::Text => DType::Utf8(Nullability::NonNullable),
-        Kind::Octets => DType::Binary(Nullability::NonNullable),
+        Kind::Truth => Some(DType::Bool(plain)),
+        Kind::Number(p) => Some(DType::Primitive(p, plain)),
+        Kind::Text => Some(DType::Utf8(plain)),
+        Kind::Octets => Some(DType::Binary(plain)),
+        Kind::Day => Some(DType::Date(plain)),
+        Kind::Exact(digits) => Some(DType::Decimal(digits.decimal_type()?, plain)),
+        Kind::Pair => None,
     }
 }

@@ -56,6 +56,7 @@ pub fn make_plans(
         if made >= count {
             break;
         }
+        maker.choose_exact();
         let expression = maker.expression(Kind::Truth)?;
         let left = if made % 2 == 0 { "" } else { LEFT };
         let source = format!(in alloc; "({expression}) and (row is not null{left})")?;

@@ -1,5 +1,5 @@
 // The rows that expressions are evaluated over, and the table that has them.
-use crate::kinds::{Kind, NUMBERS, has_pairs, maybe_null};
+use crate::kinds::{DIGITS, Kind, NUMBERS, has_exact, has_pairs, maybe_null};
 use std::alloc::{AllocError, Global};
 use std::fmt::Display;
 use vx_source::parse_type;
@@ -20,6 +20,10 @@ pub fn kinds(alloc: Global, dialect: Dialect) -> Result<Vec<Kind>, AllocError> {
         if !is_sqlite(dialect) || !matches!(p, PType::U64) {
             kinds.push(Kind::Number(p))?;
         }
+    }
+    kinds.push(Kind::Day)?;
+    for digits in DIGITS {
+        kinds.push(Kind::Exact(digits))?;
     }
     if has_pairs(dialect) {
         kinds.push(Kind::Pair)?;
@@ -58,8 +62,9 @@ pub fn row(alloc: Global, kinds: &[Kind], seeds: &mut Seeds) -> Result<Vec<Value
     Ok(values)
 }
 
-/// The statements that make the table and fill it, told without the texts of `vx_sql`. Refuses columns of
-/// floating-point numbers, decimals, days and instants, of which no expression by chance is.
+/// The statements that make the table and fill it, told without the texts of `vx_sql`. Days and decimals stand as
+/// texts of their numbers where they have no text. Refuses columns of floating-point numbers and instants, of
+/// which no expression by chance is.
 pub fn push_table(
     alloc: Global,
     dialect: Dialect,
@@ -86,9 +91,9 @@ pub fn push_table(
         let insert = format!(in alloc; "INSERT INTO t VALUES ({i}")?;
         out.push_str(insert.as_str())?;
         if let Value::Struct(values) = row {
-            for value in values.as_slice() {
+            for (dtype, value) in fields.types().iter().zip(values.iter()) {
                 out.push_str(", ")?;
-                push_flat(alloc, dialect, value, out)?;
+                push_typed(alloc, dialect, dtype, value, out)?;
             }
         }
         out.push_str(");\n")?;
@@ -129,6 +134,11 @@ fn push_column_type(
     dtype: &DType,
     out: &mut String,
 ) -> Result<(), Unread> {
+    if let DType::Decimal(decimal, _) = dtype
+        && has_exact(dialect)
+    {
+        return Ok(push_shown(alloc, decimal, out)?);
+    }
     if !is_clickhouse(dialect) {
         return Ok(out.push_str(column_type(dialect, dtype)?)?);
     }
@@ -141,18 +151,18 @@ fn push_column_type(
     Ok(out.push_str(told.as_str())?)
 }
 
-// No expression by chance is of floating-point numbers, decimals, days and instants, so that no engine is asked about a
-// table of them.
+// No expression by chance is of floating-point numbers and instants, so that no engine is asked about a table of them.
 const NO_COLUMN: Unread = Unread::Word("the engines' tables have no such column");
 
 fn clickhouse_type(dtype: &DType) -> Result<&'static str, Unread> {
     match dtype {
         DType::Bool(_) => Ok("UInt8"),
         DType::Primitive(p, _) => Ok(clickhouse_number(*p)),
-        DType::Float(..) | DType::Decimal(..) => Err(NO_COLUMN),
-        DType::Date(_) | DType::Timestamp(..) => Err(NO_COLUMN),
+        DType::Float(..) | DType::Timestamp(..) => Err(NO_COLUMN),
         DType::Utf8(_)
         | DType::Binary(_)
+        | DType::Decimal(..)
+        | DType::Date(_)
         | DType::List(..)
         | DType::FixedSizeList(..)
         | DType::Struct(..) => Ok("String"),
@@ -178,9 +188,9 @@ fn column_type(dialect: Dialect, dtype: &DType) -> Result<&'static str, Unread> 
         DType::Bool(_) => Ok("boolean"),
         DType::Primitive(..) if is_sqlite => Ok("integer"),
         DType::Primitive(p, _) => Ok(number_type(*p)),
-        DType::Float(..) | DType::Decimal(..) => Err(NO_COLUMN),
-        DType::Date(_) | DType::Timestamp(..) => Err(NO_COLUMN),
-        DType::Utf8(_) => Ok("text"),
+        DType::Float(..) | DType::Timestamp(..) => Err(NO_COLUMN),
+        DType::Date(_) if has_exact(dialect) => Ok("date"),
+        DType::Utf8(_) | DType::Decimal(..) | DType::Date(_) => Ok("text"),
         DType::Binary(_) => Ok(if is_sqlite { "blob" } else { "bytea" }),
         DType::List(..) | DType::FixedSizeList(..) | DType::Struct(..) => Ok("pair"),
     }
@@ -194,6 +204,30 @@ fn number_type(p: PType) -> &'static str {
         PType::U32 | PType::I64 => "bigint",
         PType::U64 => "numeric(20, 0)",
     }
+}
+
+// A value of that type.
+fn push_typed(
+    alloc: Global,
+    dialect: Dialect,
+    dtype: &DType,
+    value: &Value,
+    out: &mut String,
+) -> Result<(), AllocError> {
+    let Value::Int(number) = value else {
+        return push_flat(alloc, dialect, value, out);
+    };
+    let text = match dtype {
+        DType::Date(_) if has_exact(dialect) => {
+            format!(in alloc; "DATE '1970-01-01' + {number}")?
+        }
+        DType::Decimal(decimal, _) if has_exact(dialect) => {
+            format!(in alloc; "{number} * 1e-{}", decimal.scale())?
+        }
+        DType::Date(_) | DType::Decimal(..) => format!(in alloc; "'{number}'")?,
+        _ => format!(in alloc; "{number}")?,
+    };
+    out.push_str(text.as_str())
 }
 
 // A value of a row; of a pair, both of its values.
