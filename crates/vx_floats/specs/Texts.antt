@@ -7,7 +7,7 @@ use Rattle.std.specs.Float.Parse.{parse_float}
 use Rattle.std.specs.Fmt.{sign_text}
 use Rattle.std.specs.Int.{w32, w64, from_be_bytes, to_be_bytes}
 use Rattle.std.specs.List.{find, list_any, range_with_len, starts_with}
-use Rattle.std.specs.Option.{option_and_then, option_map, unwrap_or}
+use Rattle.std.specs.Option.{is_some, option_and_then, option_map, unwrap_or}
 use Rattle.std.specs.Result.{result_ok}
 use Rattle.hex.specs.Hex.{decode_sized, encode_lower}
 use Rattle.vx_dtype.specs.declared.float_type.FloatType.{FloatType}
@@ -75,6 +75,10 @@ bits_text (F64 b) = codes "0x" ++ encode_lower (to_be_bytes w64 b)
 -- `nan`, `inf`, `-inf`, or the decimal with the fewest digits behind the point that is read as the number; the bits where no decimal is
 unfoldable pub float_text : Float → List ℕ
 float_text x = unwrap_or (value_text x (value_of x)) (bits_text x)
+
+-- whether the number is written by its value, and not by its bits
+abbrev pub has_value_text : Float → Bool
+has_value_text x = is_some (value_text x (value_of x))
 
 -- ---- read
 

@@ -10,3 +10,4 @@ mod texts;
 
 pub use float::Float;
 pub use reading::read_float;
+pub use texts::has_value_text;

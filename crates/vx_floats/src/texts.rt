@@ -1,10 +1,10 @@
 // Numbers as texts.
-ghost use Rattle.std.specs.Prelude.{◌++◌, [], ◌∷◌, codes, Some};
+ghost use Rattle.std.specs.Prelude.{◌≡◌, ◌++◌, [], ◌∷◌, codes, Some};
 ghost use Rattle.std.specs.Fmt.{WritesOnOk, sign_text};
 ghost use Rattle.std.specs.Option.{option_map, unwrap_or};
 ghost use Rattle.hex.specs.Hex.{encode_lower};
 ghost use Rattle.vx_floats.specs.Parts.{IsFractionOf, den_of, num_of};
-ghost use Rattle.vx_floats.specs.Texts.{bits_text, float_text, fraction_text, scale_of};
+ghost use Rattle.vx_floats.specs.Texts.{bits_text, float_text, fraction_text, has_value_text, scale_of};
 
 use crate::Float;
 use crate::decimals::shortest;
@@ -24,6 +24,17 @@ impl Display for Float {
             Parts::Infinite(negative) => write_infinity(negative, f),
             Parts::Finite(fraction) => write_finite(*self, fraction, f),
         }
+    }
+}
+
+/// Whether the number is written as `nan`, an infinity or a decimal, and not by its bits.
+pub fn has_value_text(number: Float) -> bool
+    ensures { result ≡ has_value_text number }
+{
+    match parts_of(number) {
+        Parts::Nan => true,
+        Parts::Infinite(_negative) => true,
+        Parts::Finite(fraction) => shortest(number, fraction).is_some(),
     }
 }
 
