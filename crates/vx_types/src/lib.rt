@@ -1,4 +1,4 @@
-// Types and values under one name: what the two crates below have.
+// Types and values under one name: what the three crates below have.
 #![tactic(auto)]
 
 pub mod laws;
