@@ -1,6 +1,7 @@
 """Tests of what other libraries export by Arrow's PyCapsule interface."""
 
 import gc
+import itertools
 import pathlib
 import struct
 import sys
@@ -10,8 +11,8 @@ sys.path.insert(0, str(pathlib.Path(__file__).parents[1]))
 sys.path.insert(0, str(pathlib.Path(__file__).parent))
 
 import vx  # noqa: E402
-from columns import Column, live, record_batch  # noqa: E402
-from vx import _results  # noqa: E402
+from columns import Column, Stream, live, record_batch  # noqa: E402
+from vx import _structs  # noqa: E402
 
 try:
     import numpy as np
@@ -34,7 +35,7 @@ def texts(*values):
 class Capsules(unittest.TestCase):
     def tearDown(self):
         gc.collect()
-        self.assertEqual((live, _results._held), ({}, {}))
+        self.assertEqual((live, _structs._handed_out), ({}, []))
 
     def test_schemas(self):
         batch = record_batch(2, x=numbers([1, 2]), s=texts("a", "b"))
@@ -191,6 +192,142 @@ class Capsules(unittest.TestCase):
                 found = np.asarray(plan.select(record_batch(len(values) - start, x=column)))
             wanted = (there & (values >= 10) & (values <= 500_000))[start:]
             self.assertTrue((found == wanted).all())
+
+    def test_a_column_goes_while_an_exception_is_under_way(self):
+        batch = numbers([1, 2])
+        with vx.Plan("$ + 1", "i32?") as plan:
+            for work, wanted in [
+                (lambda: int(plan.scan_arrow(batch)), TypeError),
+                (lambda: [plan.scan_arrow(batch)][1], IndexError),
+                (lambda: int(plan.scan_arrow(batch).__arrow_c_array__()), TypeError),
+                (lambda: list(map(int, plan.scan_batches(Stream([batch, batch])))), TypeError),
+            ]:
+                self.assertRaises(wanted, work)
+
+    def test_capsules_that_are_held_on(self):
+        with vx.Plan("$ + 1", "i32?") as plan:
+            capsules = plan.scan_arrow(numbers([1, 2])).__arrow_c_array__()
+            self.assertEqual(len(_structs._handed_out), 2)
+
+            class Held:
+                def __arrow_c_array__(self, requested_schema=None):
+                    return capsules
+
+            self.assertEqual((plan.scan(Held()), plan.scan(Held())), ([3, 4], [3, 4]))
+            capsules = None
+            self.assertEqual(len(_structs._handed_out), 2)
+            plan.scan_arrow(numbers([1, 2]))
+
+    def test_any_batch_comes_out_as_a_column(self):
+        rows = [{"x": 1, "s": "a"}, {"x": None, "s": ""}, {"x": 7, "s": "c"}]
+        for schema, batch in [
+            ("{x=i32?, s=utf8}", rows),
+            ("{x=i32?, s=utf8}", {"x": [1, None, 7], "s": ["a", "", "c"]}),
+            ('{x=f32?, s=utf8, t=timestamp(ms, "UTC")?}', rows),
+            ("{x=decimal(9, 0)?, s=utf8, l=list(list({a=bool})?)?, b=binary?, f=fixed_size_list(i8)[2]?, d=date?}", rows),
+        ]:
+            with self.subTest(schema), vx.Plan("x > 5 or s = ''", schema) as plan, vx.Plan("$", schema) as all_rows:
+                wanted = all_rows.scan(batch)
+                column, found = all_rows.scan_arrow(batch), plan.filter_arrow(batch)
+                self.assertEqual((column.type, len(column), len(found)), (all_rows.type, 3, 2))
+                self.assertEqual(all_rows.scan(column), wanted)
+                self.assertEqual(all_rows.scan(found), wanted[1:])
+        lists = [{"l": [[{"a": True}], None], "f": [1, -2]}, {"l": None, "f": None}, {"l": [], "f": [3, 4]}]
+        with vx.Plan("$", "{l=list(list({a=bool})?)?, f=fixed_size_list(i8)[2]?}") as plan:
+            self.assertEqual(plan.scan(plan.scan_arrow(lists)), lists)
+        with vx.Plan("$ is not null", "list(utf8)?") as plan, vx.Plan("$", "list(utf8)?") as again:
+            self.assertEqual(again.scan(plan.filter_arrow([["a", "b"], None, []])), [["a", "b"], []])
+
+
+class Streams(unittest.TestCase):
+    def setUp(self):
+        batches = [[1, 5], [], [7, 9, -2]]
+        self.stream = Stream([record_batch(len(batch), x=numbers(batch)) for batch in batches])
+
+    def tearDown(self):
+        gc.collect()
+        self.assertEqual((live, _structs._handed_out), ({}, []))
+
+    def test_batches_go_through_one_after_the_other(self):
+        self.assertEqual(vx.schema_of(self.stream), "{x=i32?}")
+        with vx.Plan("x + 1", "{x=i32?}") as plan:
+            self.assertEqual(plan.scan(self.stream), [2, 6, 8, 10, -1])
+            self.assertEqual(plan.scan(Stream(self.stream.batches[1:2])), [])
+        with vx.Plan("x > 5", "{x=i32?}") as plan:
+            self.assertEqual(plan.select(self.stream).tolist(), [False, False, True, True, False])
+            for work in (plan.scan_arrow, plan.filter_arrow):
+                self.assertRaises(TypeError, work, self.stream)
+
+    def test_columns(self):
+        with vx.Plan("x > 1", "{x=i32?}") as plan, vx.Plan("x + 1", "{x=i32?}") as sums:
+            columns = plan.filter_batches(self.stream)
+            self.assertEqual([sums.scan(column) for column in columns], [[6], [], [8, 10]])
+            columns = sums.scan_batches(self.stream)
+            self.assertEqual([(column.type, len(column)) for column in columns], [("i32?", 2), ("i32?", 0), ("i32?", 3)])
+            for work in (sums.scan_batches, plan.filter_batches):
+                self.assertEqual([len(column) for column in work([{"x": 7}])], [1])
+
+    def test_no_batches(self):
+        none = Stream([], type=self.stream.batches[0])
+        self.assertEqual(vx.schema_of(none), "{x=i32?}")
+        with vx.Plan("x > 1", "{x=i32?}") as plan:
+            self.assertEqual((plan.scan(none), plan.select(none).tolist()), ([], []))
+            self.assertEqual([len(column) for column in plan.filter_batches(none)], [0])
+            if np:
+                found = plan.filter_numpy(none)["x"]
+                self.assertEqual((found.dtype, len(found)), (np.dtype("<i4"), 0))
+
+    @unittest.skipUnless(np, "numpy isn't installed")
+    def test_arrays_of_all_batches(self):
+        more = Stream([*self.stream.batches, record_batch(2, x=numbers([8, 0], b"\1"))])
+        with vx.Plan("x > 5", "{x=i32?}") as plan:
+            for stream, masked in ((self.stream, None), (more, [False, True])):
+                found = plan.scan_numpy(stream)
+                self.assertEqual(found.tolist(), [False, False, True, True, False, *([True, None] if masked else [])])
+                self.assertEqual(plan.filter_numpy(stream)["x"].tolist(), [7, 9, *([8] if masked else [])])
+
+    def test_places_count_the_rows_of_all_batches(self):
+        full = Stream([*self.stream.batches, record_batch(2, x=numbers([1, 2**31 - 1]))])
+        with vx.Plan("x + 1", "{x=i32?}") as plan:
+            for work in (plan.scan, lambda stream: list(plan.scan_batches(stream))):
+                with self.assertRaises(vx.FaultError) as caught:
+                    work(full)
+                self.assertEqual(caught.exception.place.record, 7)
+
+    def test_a_stream_that_stops(self):
+        for message, wanted in ((b"no \xff more", "no \ufffd more"), (None, "the stream stops")):
+            stream = Stream(self.stream.batches, (5, message))
+            with self.subTest(wanted), vx.Plan("x > 5", "{x=i32?}") as plan:
+                with self.assertRaises(OSError) as caught:
+                    plan.select(stream)
+                self.assertEqual((caught.exception.errno, caught.exception.strerror), (5, wanted))
+                self.assertEqual([len(it) for it in itertools.islice(plan.filter_batches(stream), 3)], [0, 0, 2])
+
+    def test_refused(self):
+        with vx.Plan("x > 5", "{x=i64}") as plan:
+            for work in (plan.scan, plan.select, lambda stream: list(plan.scan_batches(stream))):
+                self.assertRaises(vx.DataError, work, self.stream)
+        with vx.Plan("x > 5", "{x=i32?}") as plan:
+            columns = plan.filter_batches(self.stream)
+            self.assertEqual(len(next(columns)), 0)
+        self.assertRaises(vx.NoPlanError, next, columns)
+        with self.assertRaises(vx.DataError):
+            vx.schema_of(Stream([record_batch(0, x=Column("e", 0, [None]))]))
+
+        class Swapped:
+            def __arrow_c_stream__(self, requested_schema=None):
+                return numbers([1]).__arrow_c_schema__()
+
+        capsule = self.stream.__arrow_c_stream__()
+
+        class Held:
+            def __arrow_c_stream__(self, requested_schema=None):
+                return capsule
+
+        with vx.Plan("x > 5", "{x=i32?}") as plan:
+            self.assertRaises(ValueError, plan.scan, Swapped())
+            self.assertEqual(len(plan.scan(Held())), 5)
+            self.assertEqual(plan.scan(Held()), [])
 
 
 if __name__ == "__main__":

@@ -85,11 +85,43 @@ class Arrays(unittest.TestCase):
                 self.assertEqual(found.compressed().tolist(), column[[0, 2]].tolist())
 
     def test_instants_of_another_unit(self) -> None:
-        column = numpy.array(["2024-01-31T10:15:30"], "datetime64[s]")
-        with vx.Plan("x", "{x=timestamp(us)}") as plan:
-            self.assertEqual(plan.scan({"x": column}), [datetime.datetime(2024, 1, 31, 10, 15, 30)])
-        with vx.Plan("x", '{x=timestamp(s, "UTC")}') as plan, self.assertRaises(vx.DataError):
-            plan.scan({"x": column})
+        """Each is taken where it is a whole number of the type's units, as an array or by itself."""
+        clock = datetime.datetime(2024, 1, 31, 10, 15, 30)
+        for text, unit, schema, wanted in (
+            ("2024-01-31T10:15:30", "s", "timestamp(us)", clock),
+            ("2024-01-31T10:15:30", "ns", "timestamp(us)", clock),
+            ("2024-01-31T10:15:30", "ns", "timestamp(s)", clock),
+            ("2024-01-31", "ns", "date", clock.date()),
+            ("2024-01-31", "M", "date", datetime.date(2024, 1, 1)),
+            ("12000-01-01", "us", "timestamp(ms)", 316516204800000),
+            ("2024-01-31T10:15:30.000000001", "ns", "timestamp(us)", vx.DataError),
+            ("2024-01-31T10:15:30.5", "ms", "timestamp(s)", vx.DataError),
+            ("2024-01-31T10", "h", "date", vx.DataError),
+            ("12000-01-01", "us", "timestamp(ns)", vx.DataError),
+            ("9999999-01-01", "D", "date", vx.DataError),
+            ("NaT", "ns", "timestamp(us)", vx.DataError),
+            ("2024-01-31T10:15:30", "s", 'timestamp(s, "UTC")', vx.DataError),
+        ):
+            column = numpy.array(["1970-01-01", text], f"datetime64[{unit}]")
+            for rows in ({"x": column}, {"x": column.astype(f">M8[{unit}]")}, [{"x": it} for it in column]):
+                with self.subTest(text, unit=unit, schema=schema), vx.Plan("x", f"{{x={schema}}}") as plan:
+                    if wanted is vx.DataError:
+                        self.assertRaises(vx.DataError, plan.scan, rows)
+                        self.assertRaises(vx.DataError, vx.evaluate, "x", rows, f"{{x={schema}}}")
+                    else:
+                        self.assertEqual(plan.scan(rows)[1], wanted)
+        column = numpy.array(["NaT", "1970-01-01"], "datetime64[ns]")
+        with vx.Plan("x is null", "{x=timestamp(us)?}") as plan:
+            self.assertEqual(plan.scan({"x": column}), [True, False])
+
+    def test_decimals(self) -> None:
+        """numpy has none; what it has are objects."""
+        ten = decimal.Decimal("9.50")
+        with vx.Plan("p + p", "{p=decimal(4, 2)?}") as plan:
+            self.assertEqual(plan.scan({"p": numpy.array([ten, None])}), [decimal.Decimal("19.00"), None])
+            self.assertEqual(plan.scan({"p": numpy.array([3, 4])}), [decimal.Decimal(6), decimal.Decimal(8)])
+            self.assertRaises(TypeError, plan.scan_numpy, {"p": numpy.array([ten])})
+            self.assertRaises(TypeError, plan.filter_numpy, {"p": numpy.array([ten])})
 
 
 if __name__ == "__main__":

@@ -176,6 +176,8 @@ class Arrays(unittest.TestCase):
             ("f64", np.array([1.5, -0.0], ">f8")),
             ("f32", np.arange(10, dtype=np.float32)[::3]),
             ("f64", np.array([1, -2**53])),
+            ("f32", np.array([2**24, 0], np.uint64)),
+            ("f64?", masked(np.array([3, 4]))),
             ("f64", np.array([], np.float64)),
         ):
             with self.subTest(schema, column=column):
@@ -194,6 +196,8 @@ class Arrays(unittest.TestCase):
             ("f64", np.array([1.5], np.longdouble), 1),
             ("f64", np.array([True]), 1),
             ("f64", np.array([2**53, 2**53 + 1]), 2),
+            ("f32", np.array([0, -(2**24) - 1]), 2),
+            ("f64", np.array([0, 2**64 - 1], np.uint64), 2),
             ("f64", masked(np.array([1.0, 2.0]), [False, True]), 2),
             ("i64", np.array([1.0]), 1),
         ):

@@ -1,9 +1,11 @@
 """Tests of plans that are kept, and of the batches that they are given."""
 
+import array
 import gc
 import pathlib
 import sys
 import threading
+import time
 import unittest
 
 sys.path.insert(0, str(pathlib.Path(__file__).parents[1]))
@@ -233,6 +235,27 @@ class Lives(unittest.TestCase):
         self.assertLessEqual(len(plan._handles._spare), 8)
         plan.close()
         self.assertEqual(plan._handles._spare, [])
+
+    def test_calls_let_others_run(self):
+        batch, times = {"x": array.array("i", range(1_000_000))}, []
+        plan, interval = vx.Plan("x > 5", X), sys.getswitchinterval()
+
+        def work():
+            times.append(time.perf_counter())
+            plan.select(batch)
+            times.append(time.perf_counter())
+
+        thread, seen = threading.Thread(target=work), []
+        # (so that no thread runs before another waits, or is within a call)
+        sys.setswitchinterval(1000)
+        try:
+            thread.start()
+            while thread.is_alive():
+                seen.append(time.perf_counter())
+                time.sleep(0.001)
+        finally:
+            sys.setswitchinterval(interval)
+        self.assertTrue(any(times[0] < moment < times[1] for moment in seen))
 
     def test_closed_on_another_thread(self):
         plan, errors = vx.Plan("x + 1", X), []

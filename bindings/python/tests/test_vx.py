@@ -9,7 +9,7 @@ sys.path.insert(0, str(pathlib.Path(__file__).parents[1]))
 
 import vx  # noqa: E402
 from vx import _batches, _calls, _capsules, _errors, _kept, _library, _plans, _results, _statistics, _types  # noqa: E402
-from vx import _floats, _units, _views  # noqa: E402
+from vx import _floats, _lent, _units, _views  # noqa: E402
 
 X = "{x=i32}"
 
@@ -17,7 +17,7 @@ X = "{x=i32}"
 def load_tests(_loader, tests, _pattern):
     """Adds the examples of the docstrings."""
     texts = (vx, _calls, _capsules, _errors, _kept, _library, _plans, _results, _statistics)
-    for module in (*texts, _batches, _floats, _types, _units, _views):
+    for module in (*texts, _batches, _floats, _lent, _types, _units, _views):
         tests.addTests(doctest.DocTestSuite(module))
     return tests
 

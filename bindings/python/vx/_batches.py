@@ -5,14 +5,13 @@ from __future__ import annotations
 import dataclasses
 import itertools
 import struct
-from numbers import Integral
 from typing import Any, Callable, Iterator, List, Mapping, Sequence, Tuple
 
 from . import _floats, _numpy, _views
 from ._errors import DataError, Place
 from ._library import Lent
 from ._types import Type
-from ._units import SIZES, units_of
+from ._units import SIZES, is_whole, units_of
 
 _INTEGERS = {"i8": "b", "u8": "B", "i16": "h", "u16": "H", "i32": "i", "u32": "I", "i64": "q", "u64": "Q"}
 """The letters of whole numbers in `struct`."""
@@ -135,7 +134,7 @@ def _test_of(dtype: Type) -> Callable[[Any], bool]:
         bits = 8 * number_size(kind)
         least = -(1 << bits - 1) if kind[0] == "i" else 0
         most = least + (1 << bits) - 1
-        return lambda value: _is_integer(value) and least <= value <= most
+        return lambda value: is_whole(value) and least <= value <= most
     if kind in SIZES:
         return lambda value: units_of(value, dtype) is not None
     if kind == "struct":
@@ -147,16 +146,6 @@ def _test_of(dtype: Type) -> Callable[[Any], bool]:
         return lambda value: isinstance(_numpy.plain(value), bool)
     classes = {"utf8": str, "binary": (bytes, bytearray, memoryview), "list": (list, tuple)}[kind]
     return lambda value: isinstance(value, classes)
-
-
-def _is_integer(value: Any) -> bool:
-    """Whether this is a whole number, of Python's or numpy's.
-
-    >>> _is_integer(1), _is_integer(True), _is_integer(1.0)
-    (True, False, False)
-    """
-    # (the first test is the fast one)
-    return isinstance(value, (int, Integral)) and not isinstance(value, bool)
 
 
 @dataclasses.dataclass

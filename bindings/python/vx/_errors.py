@@ -2,8 +2,9 @@
 
 from __future__ import annotations
 
+import contextlib
 import dataclasses
-from typing import Optional
+from typing import Iterator, Optional
 
 _TEXTS = {1: "expression", 2: "schema", 3: "records"}
 
@@ -79,3 +80,14 @@ _ERRORS = {3: UnreadError, 4: RefusedError, 5: FaultError, 6: DataError, 7: NoPl
 def error_of(status: int, message: str, place: Optional[Place]) -> VxError:
     """The exception of that status."""
     return _ERRORS[status](message, place)
+
+
+@contextlib.contextmanager
+def counted_behind(rows: int) -> Iterator[None]:
+    """Has the place of an error count so many rows before its own."""
+    try:
+        yield
+    except VxError as error:
+        if error.place is not None and error.place.record is not None:
+            error.place = dataclasses.replace(error.place, record=error.place.record + rows)
+        raise

@@ -71,7 +71,6 @@ _CALLS: Dict[str, Tuple[Any, ...]] = {
     "vx_plan_paths": (_PLAN, *_ROOM),
     "vx_plan_scan": (_PLAN, ctypes.c_size_t, ctypes.POINTER(_Buffer), ctypes.c_size_t, *_ROOM),
     "vx_plan_select": (_PLAN, ctypes.c_size_t, ctypes.POINTER(_Buffer), ctypes.c_size_t, *_ROOM),
-    "vx_plan_scan_column": (_PLAN, ctypes.c_size_t, ctypes.POINTER(_Buffer), ctypes.c_size_t, *_ROOM),
     "vx_schema_of_arrow": (ctypes.c_void_p, *_ROOM),
     "vx_plan_scan_arrow_json": (_PLAN, *_TEXT, ctypes.c_void_p, ctypes.c_void_p, *_ROOM),
     "vx_plan_select_arrow": (_PLAN, *_TEXT, ctypes.c_void_p, ctypes.c_void_p, *_ROOM),
@@ -181,20 +180,13 @@ def select_plan(handle: Handle, rows: int, buffers: Sequence[Lent]) -> bytes:
     return _answered_bytes("vx_plan_select", _batch(handle, rows, buffers), _LEAST_ROOM + rows)
 
 
-def scan_column(handle: Handle, rows: int, buffers: Sequence[Lent], size: int) -> bytes:
-    """What the plan means at the rows, as a column in buffers, of numbers of that size or of bits."""
-    # (the number of rows, two lengths, and zeros behind both buffers)
-    room = 40 + rows // 8 + (size * rows or rows // 8)
-    return _answered_bytes("vx_plan_scan_column", _batch(handle, rows, buffers), room)
-
-
 def _batch(handle: Handle, rows: int, buffers: Sequence[Lent]) -> List[Any]:
     """What a call on a plan and a batch is given."""
-    lent = (_Buffer * len(buffers))(*((_address(buffer), len(buffer)) for buffer in buffers))
+    lent = (_Buffer * len(buffers))(*((address_of(buffer), len(buffer)) for buffer in buffers))
     return [ctypes.byref(handle), rows, lent, len(buffers)]
 
 
-def _address(buffer: Lent) -> Any:
+def address_of(buffer: Lent) -> Any:
     """Where the bytes lie, for as long as the buffer is there."""
     if isinstance(buffer, bytes):
         return ctypes.cast(buffer, ctypes.c_void_p)

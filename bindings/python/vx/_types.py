@@ -131,6 +131,8 @@ def to_json(value: Any) -> Any:
     value = _numpy.plain(value)
     if isinstance(value, float):
         return _floats.to_json(value)
+    if _numpy.is_instant(value):
+        return str(value)
     if isinstance(value, datetime.date):
         return value.isoformat()
     if isinstance(value, decimal.Decimal):

@@ -4,7 +4,10 @@ from __future__ import annotations
 
 import datetime
 import decimal
+from numbers import Integral
 from typing import TYPE_CHECKING, Any, Optional
+
+from . import _numpy
 
 if TYPE_CHECKING:
     from ._types import Type
@@ -37,14 +40,27 @@ def units_of(value: Any, dtype: Type) -> Optional[int]:
     return number if number is not None and -(1 << bits - 1) <= number < 1 << bits - 1 else None
 
 
-def _is_whole(value: Any) -> bool:
-    return isinstance(value, int) and not isinstance(value, bool)
+def is_whole(value: Any) -> bool:
+    """Whether this is a whole number, of Python's or numpy's.
+
+    >>> is_whole(1), is_whole(True), is_whole(1.0)
+    (True, False, False)
+    """
+    # (the first test is the fast one; spans of time of numpy's are Integral, too)
+    if isinstance(value, int):
+        return not isinstance(value, bool)
+    return isinstance(value, Integral) and hasattr(value, "__index__")
+
+
+def _whole(value: Any) -> Optional[int]:
+    return int(value) if is_whole(value) else None
 
 
 def _shifted(value: Any, scale: int) -> Optional[int]:
     """The number times 10 to the scale, where that is a whole number."""
-    if _is_whole(value):
-        return value * 10**scale
+    whole = _whole(value)
+    if whole is not None:
+        return whole * 10**scale
     if not isinstance(value, decimal.Decimal) or not value.is_finite():
         return None
     sign, digits, exponent = value.as_tuple()
@@ -60,12 +76,20 @@ def _shifted(value: Any, scale: int) -> Optional[int]:
 def _day(value: Any) -> Optional[int]:
     if isinstance(value, datetime.date) and not isinstance(value, datetime.datetime):
         return (value - _EPOCH.date()).days
-    return value if _is_whole(value) else None
+    return _of_numpy(value, "D") if _numpy.is_instant(value) else _whole(value)
+
+
+def _of_numpy(value: Any, unit: str) -> Optional[int]:
+    """The number of units of a day or an instant of numpy's, None of NaT."""
+    number = None if _numpy.plain(value) is None else _numpy.in_unit(value, unit)
+    return None if number is None else int(number)
 
 
 def _instant(value: Any, dtype: Type) -> Optional[int]:
+    if _numpy.is_instant(value):
+        return _of_numpy(value, dtype.unit) if dtype.zone is None else None
     if not isinstance(value, datetime.datetime):
-        return value if _is_whole(value) else None
+        return _whole(value)
     has_zone = value.utcoffset() is not None
     if has_zone != (dtype.zone is not None):
         return None
