@@ -13,7 +13,7 @@
 //! ```
 //!
 //! Texts are `&str`, or bytes: what isn't UTF-8 is refused as `Unread`, at its place. The calls may run on
-//! several threads at once; a [`Plan`] stays on the thread that made it.
+//! several threads at once, and each thread may have a clone of a [`Plan`].
 
 #![deny(missing_docs)]
 
