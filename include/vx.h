@@ -21,10 +21,11 @@
  * are the buffer, the vx_answer and the vx_plan. These two are never null; the buffer may be null where its
  * length is 0.
  *
- * Threads. Any calls may run at once on several threads, but on one vx_plan one at a time. It may go from thread
- * to thread where their calls can't overlap, as by a lock, or by a start or join of a thread. To use a plan on
- * several threads at once, give each a handle of its own, which vx_plan_share makes. No call may be made in a
- * signal handler, nor in the forked child of a process with several threads.
+ * Threads. Any calls may run at once on several threads, but on one vx_plan one at a time: a vx_plan that is freed
+ * while another thread scans by it is the caller's fault, which no call can tell. It may go from thread to thread
+ * where their calls can't overlap, as by a lock, or by a start or join of a thread. To use a plan on several threads
+ * at once, give each a handle of its own, which vx_plan_share makes. No call may be made in a signal handler, nor in
+ * the forked child of a process with several threads.
  *
  * docs/embed/FFI.md is the guide, and crates/vx_ffi has the contract of each call.
  */

@@ -102,7 +102,8 @@ c_program() {
         gcc $flags -O2 -o "$out/test" bindings/c/*.c "$out/libvx.a" &&
         gcc $flags -O1 -g -fsanitize=address,undefined -fno-sanitize-recover=undefined \
             -o "$out/test_sanitized" bindings/c/*.c bindings/arrow/*.c "$out/libvx.a" &&
-        gcc $flags -O1 -g -fsanitize=thread -o "$out/test_threads" bindings/c/*.c bindings/arrow/*.c "$out/libvx.a" &&
+        gcc $flags -Wl,--wrap=free -O1 -g -fsanitize=thread \
+            -o "$out/test_threads" bindings/c/*.c bindings/arrow/*.c "$out/libvx.a" &&
         g++ -std=c++11 -Wall -Wextra -Wpedantic -Werror -fsyntax-only -x c++ include/vx.h &&
         g++ -std=c++11 -Wall -Wextra -Wpedantic -Werror -fsyntax-only -x c++ include/vx_arrow.h
 }

@@ -169,6 +169,45 @@ static void check_broken(Column *c, vx_plan *plan, Text schema)
     free(a.text);
 }
 
+/* How many columns whose offsets go back are taken, and how many are refused. */
+static size_t offsets_back[2];
+
+/* An array by chance within the column, which has offsets or none. */
+static struct ArrowArray *array_within(const Column *c, char *format)
+{
+    const struct ArrowSchema *type = &c->schema;
+    struct ArrowArray *array = (struct ArrowArray *)&c->array;
+    while (type->n_children > 0 && !(strcmp(type->format, "+l") == 0 && by_chance(2))) {
+        size_t i = by_chance((size_t)type->n_children);
+        array = array->children[i];
+        type = type->children[i];
+    }
+    *format = *type->format;
+    return array;
+}
+
+/* Has an offset of a list or of a text go back, asks one of the calls, and mends it. That is told where a row that begins
+   or ends there isn't hidden by a null or by what is around it. */
+static void check_offsets(const Column *c, vx_plan *plan, Text schema)
+{
+    char format;
+    struct ArrowArray *array = array_within(c, &format);
+    if (!strchr("uz+", format) || array->n_buffers < 2)
+        return;
+    size_t at = by_chance((size_t)(array->offset + array->length) + 1);
+    int32_t *offsets = (int32_t *)array->buffers[1], was = offsets[at];
+    offsets[at] = by_chance(3) ? (at > 0 ? offsets[at - 1] : 0) - 1 - (int32_t)by_chance(5) : INT32_MIN;
+    Column values;
+    bool is_column = by_chance(2);
+    Answered a = is_column ? column_out(vx_plan_scan_arrow, plan, schema, c, &values) : scanned_column(plan, schema, c);
+    offsets[at] = was;
+    need(a.status == VX_ANSWERED || a.status == VX_BAD_DATA, "offsets that go back", c);
+    if (is_column && a.status == VX_ANSWERED)
+        release_column(&values);
+    offsets_back[a.status == VX_BAD_DATA]++;
+    free(a.text);
+}
+
 int arrow_by_chance(size_t times, uint64_t seed)
 {
     start_chance(seed);
@@ -178,13 +217,16 @@ int arrow_by_chance(size_t times, uint64_t seed)
         check_values(&c);
         check_columns(&c);
         vx_plan plan = plan_over("$", &c, &schema);
-        for (int turn = 0; turn < 4; turn++)
+        for (int turn = 0; turn < 4; turn++) {
             check_broken(&c, &plan, schema);
+            check_offsets(&c, &plan, schema);
+        }
         vx_plan_free(&plan);
         free((char *)schema.bytes);
         release_column(&c);
     }
-    printf("Arrow: %zu columns by chance, %zu failed, %zu structs left\n", times, failures, live_structs);
+    printf("Arrow: %zu columns by chance, %zu failed, %zu structs left; of %zu offsets that go back %zu are told\n", times,
+           failures, live_structs, offsets_back[0] + offsets_back[1], offsets_back[1]);
     return failures > 0 || live_structs > 0;
 }
 
@@ -221,19 +263,41 @@ static int64_t filtered(vx_plan *plan)
     return count;
 }
 
-/* Frees a plan's handle. That the last handle to go comes behind all others is by the library's count, which the
-   thread sanitizer doesn't see; so a lock tells it. */
+#ifdef __SANITIZE_THREAD__
+
+/* What goes with a plan's last handle was used before all others went. The library's count sees to that, and the thread
+   sanitizer doesn't see into the library. So it is told: what frees in place of free, by --wrap, comes behind each use of
+   a plan whose handle was let go of before. Nothing else is ordered by it. */
+void __tsan_acquire(void *at);
+void __tsan_release(void *at);
+void __real_free(void *bytes);
+
+static char uses;
+static _Thread_local bool is_freeing_plan = false;
+
+void __wrap_free(void *bytes)
+{
+    if (is_freeing_plan)
+        __tsan_acquire(&uses);
+    __real_free(bytes);
+}
+
 static void free_plan(vx_plan *plan)
 {
-#ifdef __SANITIZE_THREAD__
-    static pthread_mutex_t lock = PTHREAD_MUTEX_INITIALIZER;
-    pthread_mutex_lock(&lock);
+    __tsan_release(&uses);
+    is_freeing_plan = true;
     vx_plan_free(plan);
-    pthread_mutex_unlock(&lock);
-#else
-    vx_plan_free(plan);
-#endif
+    is_freeing_plan = false;
 }
+
+#else
+
+static void free_plan(vx_plan *plan)
+{
+    vx_plan_free(plan);
+}
+
+#endif
 
 /* Selects and filters rows of the shared batch by the plan that is given, and by others that it shares and lets
    go of; answers how often that is wrong. */
