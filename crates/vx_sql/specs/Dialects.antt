@@ -4,6 +4,8 @@ use Rattle.std.specs.Option.{is_some}
 use Rattle.std.specs.Fmt.{decimal}
 use Rattle.vx_dtype.specs.declared.dtype.PType.{PType}
 use Rattle.vx_dtype.specs.declared.dtype.PType.TheVariants.{U8, U16, U32, U64, I8, I16, I32, I64}
+use Rattle.vx_dtype.specs.declared.float_type.FloatType.{FloatType}
+use Rattle.vx_dtype.specs.declared.float_type.FloatType.TheVariants.{F32, F64}
 use Rattle.vx_dtype.specs.declared.timestamp_type.TimeUnit.{TimeUnit}
 use Rattle.vx_dtype.specs.declared.timestamp_type.TimeUnit.TheVariants.{Seconds, Milliseconds, Microseconds, Nanoseconds}
 use Rattle.vx_value.specs.Types.{Name, Atomic, truth, number, floating, decimals, date, timestamp, text, octets, LogicalType, ty, atomic, list, fixed, struct}
@@ -84,6 +86,17 @@ octets_word DuckDb = codes "BLOB"
 octets_word Spark = codes "BINARY"
 octets_word ClickHouse = codes "String"
 
+-- the engine's type of floating-point numbers of that format; none where it orders them otherwise
+abbrev pub float_word : Dialect → FloatType → List ℕ
+float_word Postgres F32 = codes "real"
+float_word Postgres F64 = codes "double precision"
+float_word Sqlite f = []
+float_word DuckDb F32 = codes "FLOAT"
+float_word DuckDb F64 = codes "DOUBLE"
+float_word Spark F32 = codes "FLOAT"
+float_word Spark F64 = codes "DOUBLE"
+float_word ClickHouse f = []
+
 -- the engine's type of days, and of decimals with so many digits, so many of them behind the point; none where it hasn't ours
 abbrev pub date_word : Dialect → List ℕ
 date_word Postgres = codes "date"
@@ -148,11 +161,11 @@ or_nothing (Some w) = w
 abbrev pub instant_type : Dialect → TimeUnit → Option Name → List ℕ
 instant_type d u z = or_nothing (instant_word d u z)
 
--- the engine's type of such values: none of floating-point numbers, lists and structs
+-- the engine's type of such values: none of lists and structs
 abbrev pub type_word : Dialect → LogicalType → List ℕ
 type_word d (ty (atomic truth) n) = truth_word d
 type_word d (ty (atomic (number p)) n) = number_word d p
-type_word d (ty (atomic (floating f)) n) = []
+type_word d (ty (atomic (floating f)) n) = float_word d f
 type_word d (ty (atomic (decimals p s)) n) = decimal_type d p s
 type_word d (ty (atomic date) n) = date_word d
 type_word d (ty (atomic (timestamp u z)) n) = instant_type d u z
@@ -183,6 +196,15 @@ has_numbers DuckDb p = true
 has_numbers Spark p = true
 has_numbers ClickHouse p = true
 
+-- whether the engine's floating-point numbers are ours, but that it takes -0 and 0 for one: SQLite has no NaN, and in ClickHouse none is equal to
+-- another
+abbrev pub has_floats : Dialect → Bool
+has_floats Postgres = true
+has_floats Sqlite = false
+has_floats DuckDb = true
+has_floats Spark = true
+has_floats ClickHouse = false
+
 -- whether the engine's days and decimals are ours: SQLite has neither, and ClickHouse fewer days, and decimals by a setting
 abbrev pub has_days : Dialect → Bool
 has_days Postgres = true
@@ -198,11 +220,11 @@ has_decimals DuckDb = true
 has_decimals Spark = true
 has_decimals ClickHouse = false
 
--- whether the engine has such values as ours; floating-point numbers have no text
+-- whether the engine has such values as ours
 abbrev pub has_atomic : Dialect → Atomic → Bool
 has_atomic d truth = true
 has_atomic d (number p) = has_numbers d p
-has_atomic d (floating f) = false
+has_atomic d (floating f) = has_floats d
 has_atomic d (decimals p s) = has_decimals d
 has_atomic d date = has_days d
 has_atomic d (timestamp u z) = is_some (instant_word d u z)

@@ -2,6 +2,7 @@ pub mod Dialects
 pub mod Children
 pub mod Quotes
 pub mod Words
+pub mod Zeros
 pub mod Patterns
 pub mod Literals
 pub mod Sums

@@ -4,15 +4,18 @@ use Rattle.std.specs.Fmt.{decimal, signed_decimal}
 use Rattle.std.specs.List.{flat_map}
 use Rattle.vx_dtype.specs.declared.dtype.PType.{PType}
 use Rattle.vx_dtype.specs.declared.dtype.PType.TheVariants.{I32}
+use Rattle.vx_dtype.specs.declared.float_type.FloatType.{FloatType}
 use Rattle.vx_dtype.specs.declared.timestamp_type.TimeUnit.{TimeUnit}
-use Rattle.vx_value.specs.Types.{Name, number, decimals, date, timestamp, LogicalType, ty, atomic, Datum, null, bool, int, float, utf8, bytes, list_of, struct_of}
+use Rattle.vx_value.specs.Types.{Name, number, floating, decimals, date, timestamp, LogicalType, ty, atomic, Datum, null, bool, int, float, utf8, bytes, list_of, struct_of}
+use Rattle.vx_floats.specs.declared.float.Float.{Float}
+use Rattle.vx_floats.specs.Texts.{float_text}
 use Rattle.vx_literals.specs.Days.{day_text}
 use Rattle.vx_literals.specs.Decimals.{decimal_text}
 use Rattle.vx_literals.specs.Instants.{instant_text}
 use Rattle.vx_value.specs.ValueTexts.{hex_byte}
 use Rattle.vx_sql.specs.declared.dialect.Dialect.{Dialect}
 use Rattle.vx_sql.specs.declared.dialect.Dialect.TheVariants.{Postgres, Sqlite, DuckDb, Spark, ClickHouse}
-use Rattle.vx_sql.specs.Dialects.{type_word, number_word, decimal_type, instant_type, cast_text}
+use Rattle.vx_sql.specs.Dialects.{type_word, number_word, float_word, decimal_type, instant_type, cast_text}
 use Rattle.vx_sql.specs.Quotes.{text_sql}
 
 -- the word of a truth value
@@ -48,6 +51,10 @@ natural_sql d p n = if is_by_itself d p then decimal n else cast_text (decimal n
 abbrev pub number_sql : Dialect → PType → ℤ → List ℕ
 number_sql d p (pos n) = natural_sql d p n
 number_sql d p (negsuc n) = cast_text (signed_decimal (negsuc n)) (number_word d p)
+
+-- a floating-point number as one of the engine's type of that format, by its text
+abbrev pub float_sql : Dialect → FloatType → Float → List ℕ
+float_sql d f x = codes "CAST('" ++ (float_text x ++ (codes "' AS " ++ (float_word d f ++ codes ")")))
 
 -- a decimal as one of the engine's type, by its digits
 abbrev pub decimal_sql : Dialect → ℕ → ℕ → ℤ → List ℕ
@@ -85,7 +92,7 @@ null_sql DuckDb t = cast_text (codes "NULL") (type_word DuckDb t)
 null_sql Spark t = cast_text (codes "NULL") (type_word Spark t)
 null_sql ClickHouse t = codes "CAST(NULL AS Nullable(" ++ (type_word ClickHouse t ++ codes "))")
 
--- a value of that type, none of a floating-point number, a list or a struct
+-- a value of that type, none of a list or a struct
 abbrev pub literal_sql : Dialect → Datum → LogicalType → List ℕ
 literal_sql d null t = null_sql d t
 literal_sql d (bool b) t = truth_sql d b
@@ -93,6 +100,7 @@ literal_sql d (int i) (ty (atomic (number p)) n) = number_sql d p i
 literal_sql d (int i) (ty (atomic (decimals p s)) n) = decimal_sql d p s i
 literal_sql d (int i) (ty (atomic date) n) = day_sql i
 literal_sql d (int i) (ty (atomic (timestamp u z)) n) = instant_sql d u z i
+literal_sql d (float x) (ty (atomic (floating f)) n) = float_sql d f x
 literal_sql d (utf8 s) t = text_sql d s
 literal_sql d (bytes bs) t = octets_sql d bs
 literal_sql d (int i) t = []

@@ -4,6 +4,7 @@ use Rattle.std.specs.Int.{int_div_euclid}
 use Rattle.std.specs.List.{list_any, count_by}
 use Rattle.std.specs.Option.{option_or, is_some}
 use Rattle.std.specs.Str.{bytes_eq}
+use Rattle.vx_floats.specs.Texts.{has_value_text}
 use Rattle.vx_literals.specs.Days.{civil_at}
 use Rattle.vx_literals.specs.Instants.{units_a_day}
 use Rattle.vx_source_types.specs.Names.{same_word}
@@ -14,11 +15,12 @@ use Rattle.vx_tree.specs.Trees.{BoundTrees}
 use Rattle.vx_sql.specs.declared.dialect.Dialect.{Dialect}
 use Rattle.vx_sql.specs.declared.dialect.Dialect.TheVariants.{Postgres, Sqlite, DuckDb, Spark, ClickHouse}
 use Rattle.vx_sql.specs.declared.unsupported.Reason.{Reason}
-use Rattle.vx_sql.specs.declared.unsupported.Reason.TheVariants.{ChildCount, UnknownType, FloatOrder, UnknownFunction, NestedLiteral, PatternNotLiteral, FillNotLiteral, FarDay, EmptyName, LongName, AmbiguousName, Nul, Backslash, Keyword}
+use Rattle.vx_sql.specs.declared.unsupported.Reason.TheVariants.{ChildCount, UnknownType, FloatOrder, FloatBits, UnknownFunction, NestedLiteral, PatternNotLiteral, FillNotLiteral, FarDay, EmptyName, LongName, AmbiguousName, Nul, Backslash, Keyword}
 use Rattle.vx_sql.specs.Children.{passes, has_atomic_first, names_first, literal_in, is_value}
-use Rattle.vx_sql.specs.Dialects.{has_type, makes_structs}
+use Rattle.vx_sql.specs.Dialects.{has_floats, has_type, makes_structs}
 use Rattle.vx_sql.specs.Quotes.{is_escaped}
 use Rattle.vx_sql.specs.Words.{is_misread}
+use Rattle.vx_sql.specs.Zeros.{mixes_zeros, mixes_zeros_between}
 
 -- the reason where the test holds
 abbrev pub because : Bool → Reason → Option Reason
@@ -67,12 +69,12 @@ number_reason (ty (atomic date) n) i = because (not (is_some (civil_at i))) FarD
 number_reason (ty (atomic (timestamp u z)) n) i = because (not (is_some (civil_at (int_div_euclid i (pos (units_a_day u)))))) FarDay
 number_reason _ i = None
 
--- a literal is of a type without parts, no floating-point number, and no text of it has a NUL
+-- a literal is of a type without parts, a floating-point number has a text of its value, and no text has a NUL
 abbrev pub value_reason : LogicalType → Datum → Option Reason
 value_reason t null = None
 value_reason t (bool b) = None
 value_reason t (int i) = number_reason t i
-value_reason t (float x) = Some FloatOrder
+value_reason t (float x) = because (not (has_value_text x)) FloatBits
 value_reason t (utf8 s) = because (has_nul s) Nul
 value_reason t (bytes bs) = None
 value_reason t (list_of vs) = None
@@ -93,16 +95,20 @@ fill_reason bs = because (not (has_atomic_first bs && passes (λ b. is_value (li
 abbrev pub pattern_reason : BoundTrees → Option Reason
 pattern_reason bs = because (not (passes (λ b. is_some (literal_in b)) (bound_at bs 1))) PatternNotLiteral
 
--- a sum is of whole numbers: the engines' sums of decimals have more digits than ours
+-- a sum is of whole numbers: the engines' sums of decimals have more digits than ours, and those of floating-point numbers may fail
 abbrev pub is_whole : LogicalType → Bool
 is_whole (ty (atomic (number p)) n) = true
 is_whole _ = false
 
-abbrev pub operation_reason : LogicalType → Operation → Option Reason
-operation_reason t (compares c) = None
-operation_reason t and_also = None
-operation_reason t or_else = None
-operation_reason t adds = because (not (is_whole t)) UnknownFunction
+-- a comparison tells -0 from 0, as no engine does
+abbrev pub operation_reason : LogicalType → Operation → BoundTrees → Option Reason
+operation_reason t (compares c) bs = because (mixes_zeros bs) FloatOrder
+operation_reason t and_also bs = None
+operation_reason t or_else bs = None
+operation_reason t adds bs = because (not (is_whole t)) UnknownFunction
+
+abbrev pub range_reason : BoundTrees → Option Reason
+range_reason bs = because (mixes_zeros_between bs) FloatOrder
 
 abbrev pub function_reason : Dialect → LogicalType → Function → BoundTrees → Option Reason
 function_reason d t (get_item a) bs = name_reason d (names_first bs) a
@@ -113,17 +119,17 @@ function_reason d t fill_null bs = fill_reason bs
 function_reason d t (like negated ci) bs = pattern_reason bs
 function_reason d t (case_when pairs has_else) bs = None
 function_reason d t zip bs = None
-function_reason d t (binary op) bs = operation_reason t op
+function_reason d t (binary op) bs = operation_reason t op bs
 function_reason d t logical_not bs = None
-function_reason d t (between ls us) bs = None
+function_reason d t (between ls us) bs = range_reason bs
 function_reason d t is_null bs = None
 function_reason d t is_not_null bs = None
 function_reason d t mask bs = None
 function_reason d t (cast u) bs = None
 
--- why values of the type have no text: engines order floating-point numbers otherwise, or this one has no such values
+-- why values of the type have no text: the engine orders floating-point numbers otherwise, or has no such values
 abbrev pub type_reason : Dialect → LogicalType → Option Reason
-type_reason d (ty (atomic (floating f)) n) = Some FloatOrder
+type_reason d (ty (atomic (floating f)) n) = because (not (has_floats d)) FloatOrder
 type_reason d t = because (not (has_type d t)) UnknownType
 
 -- why a node of that type over these children has no text: for their number, for its type, or for its function

@@ -7,18 +7,18 @@ ghost use Rattle.vx_value.specs.Types.{LogicalType};
 ghost use Rattle.vx_value.specs.ValueTexts.{hex_byte};
 ghost use Rattle.vx_value.specs.Views.{type_of, value_of};
 ghost use Rattle.vx_sql.specs.Dialects.{cast_text, decimal_type, type_word};
-ghost use Rattle.vx_sql.specs.Literals.{literal_sql, null_sql, truth_sql, is_by_itself, natural_sql, number_sql, decimal_sql, day_sql, instant_sql, octets_sql, byte_escape};
+ghost use Rattle.vx_sql.specs.Literals.{literal_sql, null_sql, truth_sql, is_by_itself, natural_sql, number_sql, float_sql, decimal_sql, day_sql, instant_sql, octets_sql, byte_escape};
 
 use crate::Dialect;
 use crate::quotes::write_text;
-use crate::types::{number_word, write_decimal_type, write_instant_type, write_type};
+use crate::types::{float_word, number_word, write_decimal_type, write_instant_type, write_type};
 use std::fmt;
 use std::fmt::{Display, Formatter, Write};
-use vx_dtype::{DecimalType, TimestampType};
+use vx_dtype::{DecimalType, FloatType, TimestampType};
 use vx_literals::{write_day, write_decimal, write_instant};
-use vx_types::{DType, PType, Scalar, Value};
+use vx_types::{DType, Float, PType, Scalar, Value};
 
-/// Writes the value, none of a floating-point number, a list or a struct.
+/// Writes the value, none of a list or a struct.
 pub(crate) fn write_literal<W: Write>(
     dialect: Dialect,
     scalar: &Scalar,
@@ -47,9 +47,13 @@ fn write_value<W: Write>(
             DType::Timestamp(timestamp, _) => write_moment(dialect, timestamp, *number, f),
             _ => Ok(()),
         },
+        Value::Float(number) => match dtype {
+            DType::Float(format, _) => write_float(dialect, *format, *number, f),
+            _ => Ok(()),
+        },
         Value::Utf8(text) => write_text(dialect, text.as_str(), f),
         Value::Binary(bytes) => write_octets(dialect, bytes.as_slice(), f),
-        Value::Float(_) | Value::List(_) | Value::Struct(_) => Ok(()),
+        Value::List(_) | Value::Struct(_) => Ok(()),
     }
 }
 
@@ -130,6 +134,22 @@ pub(crate) fn write_natural<W: Write>(
     ensures { WritesOnOk W.write_str_gives f.old result (natural_sql dialect p number) f.new }
 {
     write_number(dialect, p, i128::from(number), f)
+}
+
+// Writes a floating-point number as one of the engine's type of that format, by its text.
+fn write_float<W: Write>(
+    dialect: Dialect,
+    format: FloatType,
+    number: Float,
+    f: &mut Formatter<W>,
+) -> fmt::Result
+    ensures { WritesOnOk W.write_str_gives f.old result (float_sql dialect format number) f.new }
+{
+    f.write_str("CAST('")?;
+    number.fmt(f)?;
+    f.write_str("' AS ")?;
+    f.write_str(float_word(dialect, format))?;
+    f.write_str(")")
 }
 
 // Writes a decimal as one of the engine's type, by its digits.

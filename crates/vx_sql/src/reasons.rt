@@ -7,13 +7,15 @@ ghost use Rattle.vx_tree.specs.Nodes.{bound_at};
 ghost use Rattle.vx_tree.specs.Views.{bounds_of};
 ghost use Rattle.vx_sql.specs.Children.{passes, names_in, names_first, literal_in, is_value};
 ghost use Rattle.vx_sql.specs.Quotes.{is_escaped};
-ghost use Rattle.vx_sql.specs.Reasons.{has_nul, is_cut, same_name, spelling_reason, name_reason, names_reason, literal_reason, pack_reason, fill_reason, pattern_reason, number_reason, is_whole, operation_reason, function_reason, type_reason, own_reason};
+ghost use Rattle.vx_sql.specs.Reasons.{has_nul, is_cut, same_name, spelling_reason, name_reason, names_reason, literal_reason, pack_reason, fill_reason, pattern_reason, number_reason, range_reason, is_whole, operation_reason, function_reason, type_reason, own_reason};
 
 use crate::Dialect;
 use crate::children::{child_at, has_atomic_first, is_atomic, literal_in};
-use crate::types::{has_type, makes_structs};
+use crate::types::{has_floats, has_type, makes_structs};
 use crate::unsupported::Reason;
 use crate::words::is_misread;
+use crate::zeros::{mixes_zeros, mixes_zeros_between};
+use vx_floats::has_value_text;
 use vx_fn::{Operator, ScalarFnRef};
 use vx_literals::{has_day_text, has_instant_text};
 use vx_tree::BoundExpression;
@@ -43,7 +45,7 @@ fn type_reason(dialect: Dialect, dtype: &DType) -> Option<Reason>
     ensures { result ≡ type_reason dialect (type_of dtype.now) }
 {
     match dtype {
-        DType::Float(..) => Some(Reason::FloatOrder),
+        DType::Float(..) if !has_floats(dialect) => Some(Reason::FloatOrder),
         _ if !has_type(dialect, dtype) => Some(Reason::UnknownType),
         _ => None,
     }
@@ -64,11 +66,11 @@ fn function_reason(
         ScalarFnRef::Select(_) => Some(Reason::UnknownFunction),
         ScalarFnRef::FillNull(_) => fill_reason(children),
         ScalarFnRef::Like(_) => pattern_reason(children),
-        ScalarFnRef::Binary(operator) => operation_reason(dtype, *operator),
+        ScalarFnRef::Binary(operator) => operation_reason(dtype, *operator, children),
+        ScalarFnRef::Between(_) => range_reason(children),
         ScalarFnRef::CaseWhen(_)
         | ScalarFnRef::Zip(_)
         | ScalarFnRef::Not(_)
-        | ScalarFnRef::Between(_)
         | ScalarFnRef::IsNull(_)
         | ScalarFnRef::IsNotNull(_)
         | ScalarFnRef::Mask(_)
@@ -177,7 +179,7 @@ pub fn column_names(dtype: &DType) -> &[FieldName]
     }
 }
 
-// A literal is of a type without parts, no floating-point number, and no text of it has a NUL.
+// A literal is of a type without parts, a floating-point number has a text of its value, and no text has a NUL.
 fn literal_reason(scalar: &Scalar) -> Option<Reason>
     ensures { result ≡ literal_reason scalar.now.type scalar.now.value }
 {
@@ -187,7 +189,7 @@ fn literal_reason(scalar: &Scalar) -> Option<Reason>
     match scalar.value() {
         Value::Utf8(text) if has_nul(text.as_str()) => Some(Reason::Nul),
         Value::Int(number) => number_reason(scalar.dtype(), *number),
-        Value::Float(_) => Some(Reason::FloatOrder),
+        Value::Float(number) if !has_value_text(*number) => Some(Reason::FloatBits),
         _ => None,
     }
 }
@@ -205,13 +207,32 @@ fn number_reason(dtype: &DType, number: i128) -> Option<Reason>
     }
 }
 
-// A sum is of whole numbers: the engines' sums of decimals have more digits than ours.
-fn operation_reason(dtype: &DType, operator: Operator) -> Option<Reason>
-    ensures { result ≡ operation_reason (type_of dtype.now) (operation_of operator) }
+// A sum is of whole numbers: the engines' sums of decimals have more digits than ours, and those of
+// floating-point numbers may fail. A comparison tells -0 from 0, as no engine does.
+fn operation_reason(
+    dtype: &DType,
+    operator: Operator,
+    operands: &[BoundExpression],
+) -> Option<Reason>
+    ensures { result ≡ operation_reason (type_of dtype.now) (operation_of operator) (bounds_of operands.now) }
 {
     match operator {
-        Operator::Add if !is_whole(dtype) => Some(Reason::UnknownFunction),
+        Operator::And | Operator::Or => None,
+        Operator::Add if is_whole(dtype) => None,
+        Operator::Add => Some(Reason::UnknownFunction),
+        _ if mixes_zeros(operands) => Some(Reason::FloatOrder),
         _ => None,
+    }
+}
+
+// The same of a value between two bounds.
+fn range_reason(children: &[BoundExpression]) -> Option<Reason>
+    ensures { result ≡ range_reason (bounds_of children.now) }
+{
+    if mixes_zeros_between(children) {
+        Some(Reason::FloatOrder)
+    } else {
+        None
     }
 }
 

@@ -3,15 +3,15 @@ ghost use Rattle.std.specs.Fmt.{WritesOnOk};
 ghost use Rattle.std.specs.Prelude.{◌≡◌, option_map};
 ghost use Rattle.vx_dtype.specs.Timestamps.{zone_name};
 ghost use Rattle.vx_value.specs.Views.{type_of};
-ghost use Rattle.vx_sql.specs.Dialects.{postgres_word, duckdb_word, spark_word, clickhouse_word, number_word, truth_word, text_word, octets_word, date_word, decimal_word, decimal_type, clock_word, zoned_word, instant_word, instant_type, type_word, collation, has_days, has_decimals, has_numbers, has_parts, has_type, makes_structs};
+ghost use Rattle.vx_sql.specs.Dialects.{postgres_word, duckdb_word, spark_word, clickhouse_word, number_word, truth_word, text_word, octets_word, float_word, date_word, decimal_word, decimal_type, clock_word, zoned_word, instant_word, instant_type, type_word, collation, has_days, has_decimals, has_floats, has_numbers, has_parts, has_type, makes_structs};
 
 use crate::Dialect;
 use std::fmt;
 use std::fmt::{Display, Formatter, Write};
-use vx_dtype::{DecimalType, TimeUnit, TimestampType};
+use vx_dtype::{DecimalType, FloatType, TimeUnit, TimestampType};
 use vx_types::{DType, PType};
 
-/// Writes the engine's type of such values: none of floating-point numbers, lists and structs.
+/// Writes the engine's type of such values: none of lists and structs.
 pub(crate) fn write_type<W: Write>(
     dialect: Dialect,
     dtype: &DType,
@@ -27,7 +27,7 @@ pub(crate) fn write_type<W: Write>(
         DType::Utf8(_) => f.write_str(text_word(dialect)),
         DType::Binary(_) => f.write_str(octets_word(dialect)),
         DType::Timestamp(timestamp, _) => write_instant_type(dialect, timestamp, f),
-        DType::Float(..) => Ok(()),
+        DType::Float(format, _) => f.write_str(float_word(dialect, *format)),
         DType::List(..) | DType::FixedSizeList(..) | DType::Struct(..) => Ok(()),
     }
 }
@@ -55,6 +55,19 @@ fn decimal_word(dialect: Dialect) -> &'static str
         Dialect::Postgres => "numeric",
         Dialect::DuckDb | Dialect::Spark => "DECIMAL",
         Dialect::Sqlite | Dialect::ClickHouse => "",
+    }
+}
+
+/// The engine's type of floating-point numbers of that format, if it has ours.
+pub(crate) fn float_word(dialect: Dialect, format: FloatType) -> &'static str
+    ensures { result.now ≡ float_word dialect format }
+{
+    match (dialect, format) {
+        (Dialect::Postgres, FloatType::F32) => "real",
+        (Dialect::Postgres, FloatType::F64) => "double precision",
+        (Dialect::DuckDb | Dialect::Spark, FloatType::F32) => "FLOAT",
+        (Dialect::DuckDb | Dialect::Spark, FloatType::F64) => "DOUBLE",
+        (Dialect::Sqlite | Dialect::ClickHouse, _) => "",
     }
 }
 
@@ -255,7 +268,7 @@ pub(crate) fn collation(dialect: Dialect) -> &'static str
     }
 }
 
-/// Whether the engine has such values as ours; floating-point numbers have no text.
+/// Whether the engine has such values as ours.
 pub(crate) fn has_type(dialect: Dialect, dtype: &DType) -> bool
     ensures { result ≡ has_type dialect (type_of dtype.now) }
 {
@@ -265,8 +278,19 @@ pub(crate) fn has_type(dialect: Dialect, dtype: &DType) -> bool
         DType::Decimal(..) => has_decimals(dialect),
         DType::Date(_) => has_days(dialect),
         DType::Timestamp(timestamp, _) => instant_word(dialect, timestamp).is_some(),
-        DType::Float(..) => false,
+        DType::Float(..) => has_floats(dialect),
         DType::List(..) | DType::FixedSizeList(..) | DType::Struct(..) => has_parts(dialect),
+    }
+}
+
+/// Whether the engine has our floating-point numbers, but that it takes -0 and 0 for one: SQLite has no NaN,
+/// and in ClickHouse none is equal to another.
+pub fn has_floats(dialect: Dialect) -> bool
+    ensures { result ≡ has_floats dialect }
+{
+    match dialect {
+        Dialect::Sqlite | Dialect::ClickHouse => false,
+        Dialect::Postgres | Dialect::DuckDb | Dialect::Spark => true,
     }
 }
 

@@ -17,10 +17,14 @@ pub enum Reason {
     /// The engine has no values of its type.
     #[error("the engine has no such type")]
     UnknownType,
-    /// It is a floating-point number. Each engine takes -0.0 for 0.0; SQLite has no NaN, and ClickHouse has it
-    /// equal to nothing.
+    /// It compares floating-point numbers that may be -0.0 and 0.0, which each engine takes for one, or is such a
+    /// number where SQLite has no NaN, and ClickHouse has it equal to nothing.
     #[error("engines order the floating-point numbers -0.0 and NaN otherwise")]
     FloatOrder,
+    /// It is a floating-point number that is written by its bits: no decimal of at most 38 digits, of which at most 22
+    /// are behind the point, is read as it.
+    #[error("a floating-point number takes more digits than are written")]
+    FloatBits,
     /// The engine has no such function.
     #[error("the engine has no such function")]
     UnknownFunction,
