@@ -9,10 +9,11 @@ use Rattle.std.specs.List.{range_with_len}
 use Rattle.std.specs.declared.alloc.Global.{Global}
 use Rattle.std.proofs.lemmas.List.{get_or-take, get_or-drop, map-append, ext_get_or, take_more}
 use Rattle.std.proofs.lemmas.List.FromFn.{length-range_with_len, get_or-range_with_len, length-map-range_with_len, get_or-map-range_with_len, map-range_with_len_more}
-use Rattle.vx_value.specs.declared.value.Value.{Value, Struct, Null, Bool as Truth, Int, Utf8, Binary, the_lemmas}
+use Rattle.vx_floats.specs.declared.float.Float.{Float as Real}
+use Rattle.vx_value.specs.declared.value.Value.{Value, Struct, Null, Bool as Truth, Int, Float, Utf8, Binary, the_lemmas}
 use Rattle.vx_value.specs.Fields.{data_of}
 use Rattle.vx_value.specs.StructColumns.{row_at, struct_at}
-use Rattle.vx_value.specs.Types.{Datum, null, bool, int, bytes, struct_of, utf8}
+use Rattle.vx_value.specs.Types.{Datum, null, bool, int, float, bytes, struct_of, utf8}
 use Rattle.vx_value.specs.Views.{value_of}
 use Rattle.vx_array.specs.declared.lanes.Lanes.{Lanes}
 use Rattle.vx_array.specs.declared.validity.Validity.{Validity}
@@ -31,6 +32,9 @@ value_of-Bool b = search (rules, the_lemmas)
 
 pub value_of-Int : (z : ℤ) → value_of (Int z) ≡ int z
 value_of-Int z = search (rules, the_lemmas)
+
+pub value_of-Float : (x : Real) → value_of (Float x) ≡ float x
+value_of-Float x = search (rules, the_lemmas)
 
 pub value_of-Binary : (v : Vec ℕ Global) → value_of (Binary v) ≡ bytes v.items
 value_of-Binary v = search (rules, the_lemmas)

@@ -3,11 +3,11 @@ use Rattle.std.specs.Prelude.{ℕ, List, map}
 use Rattle.std.proofs.Math.ListN.{replicate}
 use Rattle.std.specs.List.{range_with_len}
 use Rattle.vx_value.specs.StructColumns.{struct_at}
-use Rattle.vx_value.specs.Types.{Datum, bool, int, bytes}
+use Rattle.vx_value.specs.Types.{Datum, bool, int, float, bytes}
 use Rattle.vx_value.specs.Views.{value_of}
 use Rattle.vx_array.specs.declared.lanes.Lanes.{Lanes, fold-Lanes}
 use Rattle.vx_array.specs.declared.lanes.Lanes.TheOpen.{Lanes-F}
-use Rattle.vx_array.specs.Kinds.{numbers_in, spans_in, text_row}
+use Rattle.vx_array.specs.Kinds.{floats_in, numbers_in, spans_in, text_row}
 use Rattle.vx_array.specs.Shown.{shown}
 
 -- the structs of so many rows of columns from one on
@@ -20,6 +20,7 @@ lanes_step (Lanes-F.Same v n) = replicate n (value_of v.value)
 lanes_step (Lanes-F.Values vs) = map value_of vs
 lanes_step (Lanes-F.Bools bs v) = shown v (map bool bs)
 lanes_step (Lanes-F.Numbers ns v) = shown v (map int (numbers_in ns))
+lanes_step (Lanes-F.Floats fs v) = shown v (map float (floats_in fs))
 lanes_step (Lanes-F.Texts ss v) = shown v (map text_row (spans_in ss))
 lanes_step (Lanes-F.Octets ss v) = shown v (map bytes (spans_in ss))
 lanes_step (Lanes-F.Structs fs s v) = shown v (structs_from s.from s.len fs.value.items)

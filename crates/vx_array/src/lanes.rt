@@ -2,7 +2,7 @@
 ghost use Rattle.std.specs.Prelude.{◌≡◌, ◌≤◌, ◌+◌, IfOk, length, take, drop};
 ghost use Rattle.vx_array.specs.Rows.{lanes_rows};
 
-use crate::{BitPart, Numbers, Part, Spans, Stretch, Validity};
+use crate::{BitPart, Floats, Numbers, Part, Spans, Stretch, Validity};
 use std::alloc::AllocError;
 use std::sync::Arc;
 use vx_types::Value;
@@ -19,6 +19,8 @@ pub enum Lanes {
     Bools(BitPart, Validity),
     /// Whole numbers.
     Numbers(Numbers, Validity),
+    /// Floating-point numbers.
+    Floats(Floats, Validity),
     /// Texts; bytes that aren't UTF-8 are null.
     Texts(Spans, Validity),
     /// Bytes.
@@ -38,6 +40,10 @@ impl Drop for Lanes {
             }
             Lanes::Numbers(numbers, validity) => {
                 drop(numbers);
+                drop(validity);
+            }
+            Lanes::Floats(floats, validity) => {
+                drop(floats);
                 drop(validity);
             }
             Lanes::Texts(spans, validity) | Lanes::Octets(spans, validity) => {
@@ -62,6 +68,7 @@ impl Lanes {
             Lanes::Values(values) => values.len(),
             Lanes::Bools(values, validity) => validity.count(values.len()),
             Lanes::Numbers(values, validity) => validity.count(values.len()),
+            Lanes::Floats(values, validity) => validity.count(values.len()),
             Lanes::Texts(values, validity) => validity.count(values.len()),
             Lanes::Octets(values, validity) => validity.count(values.len()),
             Lanes::Structs(_, stretch, validity) => validity.count(stretch.len),
@@ -81,6 +88,9 @@ impl Lanes {
             }
             Lanes::Numbers(values, validity) => {
                 Ok(Lanes::Numbers(values.slice(from, len)?, validity.slice(from, len)?))
+            }
+            Lanes::Floats(values, validity) => {
+                Ok(Lanes::Floats(values.slice(from, len)?, validity.slice(from, len)?))
             }
             Lanes::Texts(values, validity) => {
                 Ok(Lanes::Texts(values.slice(from, len)?, validity.slice(from, len)?))
@@ -106,6 +116,9 @@ impl Clone for Lanes {
             Lanes::Bools(values, validity) => Ok(Lanes::Bools(values.clone()?, validity.clone()?)),
             Lanes::Numbers(values, validity) => {
                 Ok(Lanes::Numbers(values.clone()?, validity.clone()?))
+            }
+            Lanes::Floats(values, validity) => {
+                Ok(Lanes::Floats(values.clone()?, validity.clone()?))
             }
             Lanes::Texts(values, validity) => Ok(Lanes::Texts(values.clone()?, validity.clone()?)),
             Lanes::Octets(values, validity) => {

@@ -4,6 +4,7 @@
 mod array;
 mod bit_part;
 mod fields;
+mod floats;
 mod items;
 mod lanes;
 pub mod laws;
@@ -19,6 +20,7 @@ mod values;
 
 pub use array::Array;
 pub use bit_part::BitPart;
+pub use floats::Floats;
 pub use lanes::Lanes;
 pub use numbers::Numbers;
 pub use part::Part;

@@ -41,6 +41,10 @@ impl Lanes {
                 let both = validity.and(alloc, own)?;
                 Ok(Some(Lanes::Numbers(values.clone()?, both)))
             }
+            Lanes::Floats(values, own) => {
+                let both = validity.and(alloc, own)?;
+                Ok(Some(Lanes::Floats(values.clone()?, both)))
+            }
             Lanes::Texts(values, own) => {
                 let both = validity.and(alloc, own)?;
                 Ok(Some(Lanes::Texts(values.clone()?, both)))

@@ -7,7 +7,7 @@ ghost use Rattle.vx_array.specs.Kinds.{spans_in, text_row};
 ghost use Rattle.vx_array.specs.Rows.{lanes_each, lanes_rows, structs_from};
 ghost use Rattle.vx_array.specs.Shown.{shown};
 
-use crate::values::{has_row, number_at, truth_at};
+use crate::values::{float_at, has_row, number_at, truth_at};
 use crate::{Lanes, Spans, Stretch, Validity};
 use std::str;
 use vx_types::Value;
@@ -23,6 +23,7 @@ impl Lanes {
             Lanes::Values(values) => is_boxed_null(values.as_slice(), i),
             Lanes::Bools(values, validity) => truth_at(values, validity, i).is_null(),
             Lanes::Numbers(values, validity) => number_at(values, validity, i).is_null(),
+            Lanes::Floats(values, validity) => float_at(values, validity, i).is_null(),
             Lanes::Texts(values, validity) => is_text_null(values, validity, i),
             Lanes::Octets(values, validity) => is_octets_null(values, validity, i),
             Lanes::Structs(fields, stretch, validity) => {

@@ -13,7 +13,7 @@ ghost use Rattle.vx_array.specs.Kinds.{spans_in, text_row};
 ghost use Rattle.vx_array.specs.Rows.{lanes_each, lanes_rows, structs_from};
 ghost use Rattle.vx_array.specs.Shown.{shown};
 
-use crate::values::{has_row, number_at, truth_at};
+use crate::values::{float_at, has_row, number_at, truth_at};
 use crate::{Lanes, Spans, Stretch, Validity};
 use std::fmt;
 use std::fmt::{Formatter, Write};
@@ -50,6 +50,7 @@ fn write_row<W: Write>(lanes: &Lanes, i: usize, t: &DType, f: &mut Formatter<W>)
         Lanes::Values(values) => write_boxed(values.as_slice(), i, t, f),
         Lanes::Bools(values, validity) => write_value(&truth_at(values, validity, i), t, f),
         Lanes::Numbers(values, validity) => write_value(&number_at(values, validity, i), t, f),
+        Lanes::Floats(values, validity) => write_value(&float_at(values, validity, i), t, f),
         Lanes::Texts(values, validity) => write_text_row(values, validity, i, t, f),
         Lanes::Octets(values, validity) => write_octets_row(values, validity, i, t, f),
         Lanes::Structs(fields, stretch, validity) => {

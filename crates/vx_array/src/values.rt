@@ -2,13 +2,13 @@
 ghost use Rattle.std.specs.Prelude.{◌≡◌, ◌+◌, ◌&&◌, IfOk, get_or, map, nat_lt};
 ghost use Rattle.std.proofs.Math.ListN.{replicate};
 ghost use Rattle.vx_value.specs.StructColumns.{row_at};
-ghost use Rattle.vx_value.specs.Types.{bool, bytes, int, null};
+ghost use Rattle.vx_value.specs.Types.{bool, bytes, float, int, null};
 ghost use Rattle.vx_value.specs.Views.{value_of};
-ghost use Rattle.vx_array.specs.Kinds.{numbers_in, spans_in, text_row};
+ghost use Rattle.vx_array.specs.Kinds.{floats_in, numbers_in, spans_in, text_row};
 ghost use Rattle.vx_array.specs.Rows.{lanes_each, lanes_rows};
 ghost use Rattle.vx_array.specs.Shown.{is_valid, shown};
 
-use crate::{BitPart, Lanes, Numbers, Spans, Validity};
+use crate::{BitPart, Floats, Lanes, Numbers, Spans, Validity};
 use std::alloc::{AllocError, Global};
 use vx_types::Value;
 
@@ -22,6 +22,7 @@ pub fn value_at(alloc: Global, lanes: &Lanes, i: usize) -> Result<Value, AllocEr
         Lanes::Values(values) => copy_at(values.as_slice(), i),
         Lanes::Bools(values, validity) => Ok(truth_at(values, validity, i)),
         Lanes::Numbers(values, validity) => Ok(number_at(values, validity, i)),
+        Lanes::Floats(values, validity) => Ok(float_at(values, validity, i)),
         Lanes::Texts(values, validity) => text_at(alloc, values, validity, i),
         Lanes::Octets(values, validity) => octets_at(alloc, values, validity, i),
         Lanes::Structs(fields, stretch, validity) => {
@@ -123,6 +124,16 @@ pub(crate) fn number_at(numbers: &Numbers, validity: &Validity, i: usize) -> Val
 {
     if has_row(validity, numbers.len(), i) {
         return Value::Int(numbers.number(i));
+    }
+    Value::Null
+}
+
+// The floating-point number at that place, where it is valid.
+pub(crate) fn float_at(floats: &Floats, validity: &Validity, i: usize) -> Value
+    ensures { value_of result ≡ get_or (shown validity.now (map float (floats_in floats.now))) i null }
+{
+    if has_row(validity, floats.len(), i) {
+        return Value::Float(floats.float(i));
     }
     Value::Null
 }

@@ -7,3 +7,4 @@ pub mod Filling
 pub mod Taking
 pub mod Concatenated
 pub mod Rowed
+pub mod Reals

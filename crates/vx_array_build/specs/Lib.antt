@@ -6,3 +6,4 @@ pub mod Taken
 pub mod Rowed
 pub mod Lanes
 pub mod Kept
+pub mod FloatBits

@@ -7,16 +7,18 @@ ghost use Rattle.vx_value.specs.Items.{item_at};
 ghost use Rattle.vx_array.specs.Rows.{lanes_rows};
 ghost use Rattle.vx_array_build.specs.Filled.{HasItems, rows_lent};
 
-use crate::filled::{numbers_of, octets_of, texts_of, truths_of, validity_of};
+use crate::filled::{bits_of, numbers_of, octets_of, texts_of, truths_of, validity_of};
+use crate::float_bits::FloatBits;
 use crate::lane_types::lane_type;
 use crate::native::Native;
 use std::alloc::{AllocError, Global};
 use std::sync::Arc;
 use vx_array::{Array, Lanes, Part, Stretch};
-use vx_types::{Column, DType, PType, StructFields, Value, VortexResult};
+use vx_types::{Column, DType, FloatType, PType, StructFields, Value, VortexResult};
 
-/// The array of a column's rows, in a buffer of their own width where they are truth values, whole numbers,
-/// days, instants, texts or bytes, or structs of such. Copies them, and refuses with `OutOfMemory` (1) alone.
+/// The array of a column's rows, in a buffer of their own width where they are truth values, whole or
+/// floating-point numbers, days, instants, texts or bytes, or structs of such. Copies them, and refuses with
+/// `OutOfMemory` (1) alone.
 pub fn from_column(alloc: Global, column: &Column) -> VortexResult<Array>
     ensures { ReturnsOrOom (λ a. a) result (Ok column.now) }
 {
@@ -63,6 +65,8 @@ fn lanes_of<'a>(
 {
     let typed = match dtype {
         DType::Bool(_) => truth_lanes(alloc, rows)?,
+        DType::Float(FloatType::F32, _) => float_lanes::<u32>(alloc, rows)?,
+        DType::Float(FloatType::F64, _) => float_lanes::<u64>(alloc, rows)?,
         DType::Utf8(_) => text_lanes(alloc, rows)?,
         DType::Binary(_) => octet_lanes(alloc, rows)?,
         DType::Struct(fields, _) => struct_lanes(alloc, fields, rows, nothing)?,
@@ -109,6 +113,19 @@ fn native_lanes<T: Native>(alloc: Global, rows: &[&Value]) -> Result<Option<Lane
         Some(part) => {
             let validity = validity_of(alloc, rows)?;
             Ok(Some(Lanes::Numbers(T::numbers(part), validity)))
+        }
+        None => Ok(None),
+    }
+}
+
+// The lanes of floating-point numbers, if all rows are some of the format or null.
+fn float_lanes<T: FloatBits>(alloc: Global, rows: &[&Value]) -> Result<Option<Lanes>, AllocError>
+    ensures { IfOk result (λ found. IfSome found (λ lanes. lanes_rows lanes ≡ rows_lent rows.now)) }
+{
+    match bits_of::<T>(alloc, rows)? {
+        Some(part) => {
+            let validity = validity_of(alloc, rows)?;
+            Ok(Some(Lanes::Floats(T::floats(part), validity)))
         }
         None => Ok(None),
     }

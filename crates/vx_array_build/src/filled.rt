@@ -4,7 +4,9 @@ ghost use Rattle.vx_value.specs.Types.{bool, bytes, int, is_null_datum, null, ut
 ghost use Rattle.vx_value.specs.Views.{value_of};
 ghost use Rattle.vx_array.specs.Kinds.{spans_in, text_row};
 ghost use Rattle.vx_array_build.specs.Filled.{IsFilled, IsValidity, rows_lent};
+ghost use Rattle.vx_array_build.specs.FloatBits.{float_row};
 
+use crate::float_bits::{FloatBits, float_bits};
 use crate::native::Native;
 use crate::spans_builder::SpansBuilder;
 use std::alloc::{AllocError, Global};
@@ -57,6 +59,23 @@ pub(crate) fn numbers_of<T: Native>(
         }
     }
     Ok(Some(Part::new(alloc, numbers)?))
+}
+
+// The bits of the floating-point numbers, if all rows are some of the format or null.
+pub(crate) fn bits_of<T: FloatBits>(
+    alloc: Global,
+    rows: &[&Value],
+) -> Result<Option<Part<T>>, AllocError>
+    ensures { IfOk result (λ found. IfSome found (λ bits. IsFilled (map (float_row T.format) (map int (map T.number bits))) (rows_lent rows.now) (length rows.now))) }
+{
+    let mut bits = Vec::with_capacity(alloc, rows.len())?;
+    for i in 0..rows.len() {
+        match bits_in::<T>(rows[i]) {
+            Some(number) => bits.push(number)?,
+            None => return Ok(None),
+        }
+    }
+    Ok(Some(Part::new(alloc, bits)?))
 }
 
 // The texts, if all rows are some or null.
@@ -116,6 +135,20 @@ fn number_in<T: Number>(value: &Value) -> Option<T>
 {
     match value {
         Value::Int(number) => T::narrowed(*number),
+        Value::Null => Some(T::zero()),
+        _ => None,
+    }
+}
+
+// The bits of the floating-point number where it is one of the format, and some for null.
+fn bits_in<T: FloatBits>(value: &Value) -> Option<T>
+    ensures { MatchOption result ⊤ (λ x. is_null_datum (value_of value.now) ≡ false → float_row T.format (int (T.number x)) ≡ value_of value.now) }
+{
+    match value {
+        Value::Float(float) => match float_bits(T::float_type(), *float) {
+            Some(bits) => T::narrowed(bits as i128),
+            None => None,
+        },
         Value::Null => Some(T::zero()),
         _ => None,
     }

@@ -36,6 +36,17 @@ impl<T: Native> Model for NumbersBuilder<T> {
     ghost invariant = { λ b. length (flags (length b.numbers.items) b.valid) ≡ length b.numbers.items };
 }
 
+impl<T: Native> NumbersBuilder<T> {
+    /// The numbers in a buffer, and which of them are valid.
+    pub(crate) fn into_parts(self, alloc: Global) -> Result<(Part<T>, Validity), AllocError>
+        ensures { IfOk result (λ parts. shown parts.1 (map int (map T.number parts.0)) ≡ self) }
+    {
+        let NumbersBuilder { numbers, valid } = self;
+        let validity = validity_of_rows(alloc, valid)?;
+        Ok((Part::new(alloc, numbers)?, validity))
+    }
+}
+
 impl<T: Native> RowsBuilder for NumbersBuilder<T> {
     ghost rows = { λ b. b };
 
@@ -57,10 +68,8 @@ impl<T: Native> RowsBuilder for NumbersBuilder<T> {
     }
 
     fn finish(self, alloc: Global) -> Result<Lanes, AllocError> {
-        let NumbersBuilder { numbers, valid } = self;
-        let validity = validity_of_rows(alloc, valid)?;
-        let numbers = T::numbers(Part::new(alloc, numbers)?);
-        Ok(Lanes::Numbers(numbers, validity))
+        let (numbers, validity) = self.into_parts(alloc)?;
+        Ok(Lanes::Numbers(T::numbers(numbers), validity))
     }
 }
 

@@ -8,6 +8,7 @@ ghost use Rattle.vx_array.specs.Rows.{lanes_rows};
 ghost use Rattle.vx_array_build.specs.Parts.{all_of_type, parts_joined, rows_of_parts};
 
 use crate::columns::typed_lanes;
+use crate::floats_builder::FloatsBuilder;
 use crate::lane_types::lane_type;
 use crate::numbers_builder::NumbersBuilder;
 use crate::rows_builder::RowsBuilder;
@@ -15,7 +16,7 @@ use crate::same::same_rows;
 use crate::truths_builder::TruthsBuilder;
 use std::alloc::{AllocError, Global};
 use vx_array::{Array, Lanes, value_at};
-use vx_types::{DType, PType, Value, VortexError, VortexResult};
+use vx_types::{DType, FloatType, PType, Value, VortexError, VortexResult};
 
 /// The rows of the parts, one part after another, in buffers for the type's kind; constants of one value
 /// stay a constant. Refuses with `ScopeMismatch` (12) where some part has another type, before it takes any
@@ -56,8 +57,8 @@ fn all_of_type(dtype: &DType, parts: &[Array]) -> bool
     parts.iter().all(|part| *part.dtype() == *dtype)
 }
 
-// The rows of the parts, where each has them in a buffer of the type's kind: truth values, or numbers of the
-// type's own width, as which days and instants lie there, too.
+// The rows of the parts, where each has them in a buffer of the type's kind: truth values, floating-point
+// numbers, or numbers of the type's own width, as which days and instants lie there, too.
 fn buffers_joined(
     alloc: Global,
     dtype: &DType,
@@ -68,6 +69,8 @@ fn buffers_joined(
 {
     match dtype {
         DType::Bool(_) => joined_in::<TruthsBuilder>(alloc, parts),
+        DType::Float(FloatType::F32, _) => joined_in::<FloatsBuilder<u32>>(alloc, parts),
+        DType::Float(FloatType::F64, _) => joined_in::<FloatsBuilder<u64>>(alloc, parts),
         _ => match lane_type(dtype) {
             Some(PType::U8) => joined_in::<NumbersBuilder<u8>>(alloc, parts),
             Some(PType::U16) => joined_in::<NumbersBuilder<u16>>(alloc, parts),

@@ -1,6 +1,6 @@
 // Lanes of rows that are named.
 ghost use Rattle.std.specs.Prelude.{◌≡◌, ◌+◌, ℕ, List, IfOk, length, get_or, map, pos};
-ghost use Rattle.vx_array.specs.Kinds.{numbers_in, spans_in};
+ghost use Rattle.vx_array.specs.Kinds.{bits_in, floats_in, format_in, numbers_in, spans_in};
 ghost use Rattle.vx_array.specs.Rows.{lanes_each, lanes_rows};
 ghost use Rattle.vx_array_build.specs.Taken.{AreWithin, IsTaken, rows_at};
 
@@ -8,7 +8,7 @@ use crate::gather::{are_within, gather, gather_bits};
 use crate::spans_builder::SpansBuilder;
 use std::alloc::{AllocError, Global};
 use std::sync::Arc;
-use vx_array::{BitPart, Lanes, Numbers, Part, Spans, Stretch, Validity, value_at};
+use vx_array::{BitPart, Floats, Lanes, Numbers, Part, Spans, Stretch, Validity, value_at};
 use vx_array_loops::Number;
 
 // The rows of these indices, null where there is none.
@@ -28,6 +28,10 @@ pub(crate) fn taken(alloc: Global, lanes: &Lanes, indices: &[usize]) -> Result<L
         Lanes::Numbers(numbers, validity) => {
             let numbers = numbers_taken(alloc, numbers, indices)?;
             Ok(Lanes::Numbers(numbers, validity_taken(alloc, validity, indices)?))
+        }
+        Lanes::Floats(floats, validity) => {
+            let floats = floats_taken(alloc, floats, indices)?;
+            Ok(Lanes::Floats(floats, validity_taken(alloc, validity, indices)?))
         }
         Lanes::Texts(spans, validity) => {
             let spans = spans_taken(alloc, spans, indices)?;
@@ -127,6 +131,18 @@ fn numbers_taken(alloc: Global, numbers: &Numbers, indices: &[usize]) -> Result<
         Numbers::I16(numbers) => Ok(Numbers::I16(gathered(alloc, numbers, indices)?)),
         Numbers::I32(numbers) => Ok(Numbers::I32(gathered(alloc, numbers, indices)?)),
         Numbers::I64(numbers) => Ok(Numbers::I64(gathered(alloc, numbers, indices)?)),
+    }
+}
+
+// The floating-point numbers of these indices.
+fn floats_taken(alloc: Global, floats: &Floats, indices: &[usize]) -> Result<Floats, AllocError>
+    requires { AreWithin indices.now (length (floats_in floats.now)) }
+    ensures format { IfOk result (λ f. format_in f ≡ format_in floats.now) }
+    ensures bits { IfOk result (λ f. map (λ b. pos b) (bits_in f) ≡ map (λ i. get_or (map (λ b. pos b) (bits_in floats.now)) i (pos 0)) indices.now) }
+{
+    match floats {
+        Floats::F32(bits) => Ok(Floats::F32(gathered(alloc, bits, indices)?)),
+        Floats::F64(bits) => Ok(Floats::F64(gathered(alloc, bits, indices)?)),
     }
 }
 

@@ -17,8 +17,8 @@ use crate::node::Node;
 use std::alloc::{AllocError, Global};
 use vx_array::Lanes;
 use vx_array_kernels::{
-    Connective, Pair, add, between, compare, comparison_of, connect, fill_null, is_not_null,
-    is_null, mask, not, zip,
+    Connective, Pair, Range, add, add_floats, between, compare, comparison_of, connect, fill_null,
+    is_not_null, is_null, mask, not, zip,
 };
 use vx_array_loops::Comparison;
 use vx_fn::{BetweenOptions, FillNull, Operator, ScalarFnRef, StrictComparison};
@@ -69,17 +69,13 @@ pub fn of_three(
     let (first, second, third) = below;
     match node.function {
         ScalarFnRef::Between(options) => {
-            let lower = Pair {
+            let range = Range {
                 count,
-                lhs: second,
-                rhs: first,
+                lower: second,
+                column: first,
+                upper: third,
             };
-            let upper = Pair {
-                count,
-                lhs: first,
-                rhs: third,
-            };
-            between(alloc, comparisons(options), lower, upper)
+            between(alloc, comparisons(options), range)
         }
         ScalarFnRef::Zip(_) => {
             let pair = Pair {
@@ -127,6 +123,7 @@ fn sums_of(alloc: Global, node: Node, pair: Pair) -> Result<Option<Lanes>, Alloc
 {
     match first_type(node) {
         Some(DType::Primitive(number, _)) => add(alloc, *number, pair),
+        Some(DType::Float(_, _)) => add_floats(alloc, pair),
         _ => Ok(None),
     }
 }

@@ -13,3 +13,5 @@ pub mod Upward
 pub mod Along
 pub mod Quick
 mod AllValid
+mod Keyed
+mod Summed

@@ -2,8 +2,11 @@ pub mod Asked
 pub mod ByteRows
 pub mod Choices
 pub mod Connected
+pub mod FloatSums
 pub mod Found
+pub mod Keys
 pub mod Likeness
+pub mod Ranges
 pub mod Reach
 pub mod Sums
 pub mod Truths

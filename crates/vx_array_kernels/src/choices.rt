@@ -7,6 +7,7 @@ ghost use Rattle.vx_array_kernels.specs.Found.{Finds, IsLong};
 use crate::blend::Blend;
 use crate::byte_kind::{OctetKind, TextKind};
 use crate::byte_rows::ByteRows;
+use crate::float_rows::FloatRows;
 use crate::masks::mask_of;
 use crate::nulls::null_rows;
 use crate::number_rows::NumberRows;
@@ -16,14 +17,16 @@ use std::alloc::{AllocError, Global};
 use std::sync::Arc;
 use vx_array::Lanes;
 use vx_array_build::lane_type;
-use vx_types::{DType, PType, Value};
+use vx_types::{DType, FloatType, PType, Value};
 
-// A call for rows of the kind that a type has, if they are truth values, texts or bytes, or lie in buffers of
-// numbers.
+// A call for rows of the kind that a type has, if they are truth values, floating-point numbers, texts or
+// bytes, or lie in buffers of numbers.
 macro_rules! by_kind {
     ($dtype:expr, $f:ident $args:tt) => {
         match $dtype {
             DType::Bool(_) => by_kind!(@ $f Truths $args),
+            DType::Float(FloatType::F32, _) => $f::<FloatRows<NumberRows<u32>, u32>> $args,
+            DType::Float(FloatType::F64, _) => $f::<FloatRows<NumberRows<u64>, u64>> $args,
             DType::Utf8(_) => $f::<ByteRows<TextKind>> $args,
             DType::Binary(_) => $f::<ByteRows<OctetKind>> $args,
             _ => match lane_type($dtype) {
@@ -43,8 +46,9 @@ macro_rules! by_kind {
 }
 
 /// Of conditions and values in turn the value beside the first condition that is true, else the last
-/// column's value, else null. There is an answer where all values are truth values, whole numbers, days,
-/// instants, texts or bytes of the type in buffers, or one value in all rows, and conditions truth values.
+/// column's value, else null. There is an answer where all values are truth values, whole or floating-point
+/// numbers, days, instants, texts or bytes of the type in buffers, or one value in all rows, and conditions
+/// truth values.
 pub fn case_when(
     alloc: Global,
     count: usize,
@@ -73,8 +77,8 @@ pub fn zip(
 }
 
 /// The first column's values, and the other's where they are null. There is an answer where the first ones
-/// are truth values, whole numbers, days, instants, texts or bytes of the type in buffers, and the others,
-/// too, or one value in all rows.
+/// are truth values, whole or floating-point numbers, days, instants, texts or bytes of the type in buffers,
+/// and the others, too, or one value in all rows.
 pub fn fill_null(alloc: Global, dtype: &DType, pair: Pair) -> Result<Option<Lanes>, AllocError>
     requires { IsLong pair }
     ensures { Finds (filled_rows pair.entry.count (lanes_rows pair.entry.lhs.now) (lanes_rows pair.entry.rhs.now)) result }

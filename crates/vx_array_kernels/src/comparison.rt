@@ -5,7 +5,7 @@ ghost use Rattle.vx_value.specs.Types.{bool, int};
 ghost use Rattle.vx_value.specs.Views.{value_of};
 ghost use Rattle.vx_fn.specs.Functions.{compares};
 ghost use Rattle.vx_fn.specs.Functions as functions;
-ghost use Rattle.vx_fn.specs.Values.{compared, kleene_and};
+ghost use Rattle.vx_fn.specs.Values.{compared};
 ghost use Rattle.vx_fn.specs.Views.{operation_of};
 ghost use Rattle.vx_array.specs.Kinds.{numbers_in};
 ghost use Rattle.vx_array.specs.Rows.{lanes_rows};
@@ -13,10 +13,9 @@ ghost use Rattle.vx_array.specs.Shown.{shown};
 ghost use Rattle.vx_array_loops.specs.Comparisons.{holds};
 ghost use Rattle.vx_array_kernels.specs.Asked.{asked, compared_rows};
 ghost use Rattle.vx_array_kernels.specs.Found.{Finds, IsLong, pair_rows};
-ghost use Rattle.vx_array_kernels.specs.Truths.{both_rows};
 
 use crate::columns::compare_columns;
-use crate::logic::{Connective, connect};
+use crate::float_comparison::{compare_floats, format_of};
 use crate::pair::Pair;
 use crate::widths::by_width;
 use std::alloc::{AllocError, Global};
@@ -54,37 +53,26 @@ fn mirrored(comparison: Comparison) -> Comparison
     }
 }
 
-/// Whether each row lies between two bounds: by one comparison of the lower bound with the row, which are
-/// the first pair, and by another one of the row with the upper bound. There is an answer where each of the
-/// two has one.
-pub fn between(
+/// The comparison of two columns. There is an answer where both are numbers in buffers of one width or of
+/// one format, and where one is one value in all rows and the other has numbers whose width or format has
+/// that value.
+pub fn compare(
     alloc: Global,
-    comparisons: (Comparison, Comparison),
-    lower: Pair,
-    upper: Pair,
+    comparison: Comparison,
+    pair: Pair,
 ) -> Result<Option<Lanes>, AllocError>
-    requires lower { IsLong lower }
-    requires upper { IsLong upper }
-    requires count { upper.count ≡ lower.count }
-    ensures { Finds (both_rows lower.entry.count kleene_and (pair_rows (compared (asked comparisons.0)) lower.entry) (pair_rows (compared (asked comparisons.1)) upper.entry)) result }
+    requires { IsLong pair }
+    ensures { Finds (pair_rows (compared (asked comparison)) pair.entry) result }
 {
-    let Some(above) = compare(alloc, comparisons.0, lower)? else {
-        return Ok(None);
-    };
-    let Some(below) = compare(alloc, comparisons.1, upper)? else {
-        return Ok(None);
-    };
-    let both = Pair {
-        count: lower.count,
-        lhs: &above,
-        rhs: &below,
-    };
-    connect(alloc, Connective::And, both)
+    match format_of(pair) {
+        Some(float_type) => compare_floats(alloc, comparison, float_type, pair),
+        None => compare_whole(alloc, comparison, pair),
+    }
 }
 
-/// The comparison of two columns. There is an answer where both are numbers in buffers of one width, and
-/// where one is one value in all rows and the other has numbers whose width has that value.
-pub fn compare(
+/// The comparison of two columns of whole numbers. There is an answer where both are numbers in buffers of one
+/// width, and where one is one value in all rows and the other has numbers whose width has that value.
+pub fn compare_whole(
     alloc: Global,
     comparison: Comparison,
     pair: Pair,

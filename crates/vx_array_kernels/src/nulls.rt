@@ -78,6 +78,7 @@ fn validity_of(lanes: &Lanes) -> Option<&Validity>
     match lanes {
         Lanes::Bools(_, validity) => Some(validity),
         Lanes::Numbers(_, validity) => Some(validity),
+        Lanes::Floats(_, validity) => Some(validity),
         Lanes::Octets(_, validity) => Some(validity),
         Lanes::Structs(_, _, validity) => Some(validity),
         _ => None,

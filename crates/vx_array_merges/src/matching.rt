@@ -21,7 +21,7 @@ use vx_types::{DType, VortexResult};
 /// null, as an array of the type. A condition that is null counts as false. Asks at least one
 /// condition, a value array for each, all arrays of one length, values of the type, and without
 /// ELSE a nullable type. Refuses with `OutOfMemory` (1) alone. Goes over words and buffers where truth
-/// values are conditions, and truth values, whole numbers, texts or bytes are chosen; else over columns.
+/// values are conditions, and truth values, numbers, texts or bytes are chosen; else over columns.
 pub fn first_match_array(
     alloc: Global,
     conditions: &[Array],

@@ -21,6 +21,7 @@ pub(crate) fn true_rows(alloc: Global, lanes: &Lanes) -> Result<Bits, AllocError
         Lanes::Values(values) => truths_of(alloc, values.as_slice()),
         Lanes::Bools(truths, validity) => valid_truths(alloc, truths, validity),
         Lanes::Numbers(_, _) => Bits::zeros(alloc, lanes.len()),
+        Lanes::Floats(_, _) => Bits::zeros(alloc, lanes.len()),
         Lanes::Texts(_, _) => Bits::zeros(alloc, lanes.len()),
         Lanes::Octets(_, _) => Bits::zeros(alloc, lanes.len()),
         Lanes::Structs(_, _, _) => Bits::zeros(alloc, lanes.len()),

@@ -1,16 +1,21 @@
 -- Columns that are read at once.
-use Rattle.std.proofs.Common.{◌≡◌, ℕ, zero, suc, ◌+◌, ◌<◌, ◌≤◌, List, [], ◌∷◌, ◌++◌, length, get_or, take, map, refl, sym, ap, ◌∙◌, subst, arith, add-one, below_more, Bool, true, false, ℤ, pos}
+use Rattle.std.proofs.Common.{◌≡◌, ℕ, zero, suc, ◌+◌, ◌*◌, ◌<◌, ◌≤◌, List, [], ◌∷◌, ◌++◌, length, get_or, take, map, refl, sym, ap, ◌∙◌, subst, arith, add-one, below_more, Bool, true, false, ℤ, pos}
 use Rattle.std.specs.Prelude.{Result, Ok, Err, IfOk, IfSome, Option, Some, None, is_some, if◌then◌else◌}
 use Rattle.std.proofs.Math.Seq.{take-length}
 use Rattle.std.proofs.Math.ListN.{get_or-append}
 use Rattle.std.proofs.Math.Seq.{get_or-append_seam}
 use Rattle.std.proofs.lemmas.List.{get_or-map, length-append, length-map, map-append, take_more}
+use Rattle.std.specs.Option.{option_map}
 use Rattle.std.proofs.lemmas.Bool.{eq-eqb}
 use Rattle.std.proofs.lemmas.List.FromFn.{length-map-range_with_len, get_or-map-range_with_len}
 use Rattle.vx_dtype.specs.Fields.{fields_named}
 use Rattle.vx_dtype.specs.declared.dtype.DType.{DType}
 use Rattle.vx_dtype.specs.declared.dtype.PType.{PType}
-use Rattle.vx_value.specs.Types.{Name, LogicalType, ty, Shape, atomic, truth, number, floating, decimals, date, timestamp, text, octets, list, fixed, struct, shape_of, is_nullable, Fields, Datum, null, bool, int, struct_of}
+use Rattle.vx_dtype.specs.declared.dtype.PType.TheVariants.{U32, U64}
+use Rattle.vx_dtype.specs.declared.float_type.FloatType.{FloatType}
+use Rattle.vx_dtype.specs.declared.float_type.FloatType.TheVariants.{F32, F64}
+use Rattle.vx_floats.specs.declared.float.Float.{Float}
+use Rattle.vx_value.specs.Types.{Name, LogicalType, ty, Shape, atomic, truth, number, floating, decimals, date, timestamp, text, octets, list, fixed, struct, shape_of, is_nullable, Fields, Datum, null, bool, int, float, struct_of}
 use Rattle.vx_value.specs.Fields.{data_of}
 use Rattle.vx_value.specs.Fits.{Fits}
 use Rattle.vx_value.specs.Columns.{Batch, batch, first_misfit}
@@ -22,12 +27,13 @@ use Rattle.vx_array.specs.Shown as shown
 use Rattle.vx_array.specs.Shown.{shown_count}
 use Rattle.vx_array.proofs.Masked.{get_or-shown, length-shown}
 use Rattle.vx_array_build.specs.Built.{column_by, shown_by, structs_by}
+use Rattle.vx_array_build.specs.FloatBits.{float_row}
 use Rattle.vx_array_build.specs.Lanes.{lane_of}
 use Rattle.vx_data_buffers.specs.Results.{and_then, and_so, each_from}
-use Rattle.vx_data_buffers.specs.Bytes.{bytes_at, number_at}
+use Rattle.vx_data_buffers.specs.Bytes.{bits_type, bytes_at, float_at, float_of, number_at, number_of, part}
 use Rattle.vx_data_buffers.specs.Layout.{buffer_count, found, unless_null, value_at, present_at}
 use Rattle.vx_data_buffers.specs.Rows.{column_said, row_of}
-use Rattle.vx_data_buffers.specs.Arrays.{AreBits, AreNumbers, HasNumbers, HaveFields, IsColumn, Tells, if_nullable}
+use Rattle.vx_data_buffers.specs.Arrays.{AreBits, AreNumbers, HasFloats, HasNumbers, HaveFields, IsColumn, Tells, if_nullable}
 use Rattle.vx_data_buffers.specs.declared.fault.Fault.{Fault}
 use Rattle.vx_data_buffers.proofs.Runs.{one_more}
 
@@ -101,6 +107,28 @@ numbers_read buffers s at rows n v a tells (ns, (p, lane, are), is) =
     subst (IsColumn buffers (ty s n) at rows) (sym is)
     (column_read buffers s at rows n v (map int ns) tells (length-map ns int ∙ are.0)
     (λ i h. lane_read buffers s p (at + 1) i lane ∙ ap (λ r. and_so (found (at + 1) r) int) (are.1 i h) ∙ ap Ok (sym (get_or-map int ns i (pos 0) null (omega (arith, are.0))))))
+
+-- what is read of a floating-point number, by the number that has its bits
+pub bits_read : (f : FloatType) (bytes : List ℕ) (i : ℕ) (z : ℤ) → number_at (bits_type f) bytes i ≡ Some z → (x : Float) × (float_at f bytes i ≡ Some x) × (float x ≡ float_row f (int z))
+bits_read F32 bytes i z is = go (part bytes (i * 4) 4) is
+  where
+    go : (r : Option (List ℕ)) → option_map (number_of U32) r ≡ Some z → (x : Float) × (option_map (float_of F32) r ≡ Some x) × (float x ≡ float_row F32 (int z))
+    go (Some b) e = let same : number_of U32 b ≡ z = cc in (float_of F32 b, refl, ap (λ y. float_row F32 (int y)) same)
+    go None e = cc
+bits_read F64 bytes i z is = go (part bytes (i * 8) 8) is
+  where
+    go : (r : Option (List ℕ)) → option_map (number_of U64) r ≡ Some z → (x : Float) × (option_map (float_of F64) r ≡ Some x) × (float x ≡ float_row F64 (int z))
+    go (Some b) e = let same : number_of U64 b ≡ z = cc in (float_of F64 b, refl, ap (λ y. float_row F64 (int y)) same)
+    go None e = cc
+
+-- of floating-point numbers
+pub floats_read : (buffers : List (List ℕ)) (f : FloatType) (at rows : ℕ) (n : Bool) (v : Validity) (a : Batch) → Tells buffers at rows n v → HasFloats (bytes_at buffers (at + 1)) f (bits_type f) rows (if_nullable n v) a → IsColumn buffers (ty (atomic (floating f)) n) at rows a
+floats_read buffers f at rows n v a tells (ns, are, is) =
+    subst (IsColumn buffers (ty (atomic (floating f)) n) at rows) (sym is)
+    (column_read buffers (atomic (floating f)) at rows n v (map (float_row f) (map int ns)) tells (length-map (map int ns) (float_row f) ∙ length-map ns int ∙ are.0)
+    (λ i h. let (x, read, told) = bits_read f (bytes_at buffers (at + 1)) i (get_or ns i (pos 0)) (are.1 i h) in
+    ap (λ r. and_so (found (at + 1) r) float) read
+    ∙ ap Ok (told ∙ sym (get_or-map (float_row f) (map int ns) i null null (omega (arith, are.0, length-map ns int)) ∙ ap (float_row f) (get_or-map int ns i (pos 0) null (omega (arith, are.0)))))))
 
 some_if : (n : Bool) (v : Validity) → is_some (if_nullable n v) ≡ n
 some_if true v = refl

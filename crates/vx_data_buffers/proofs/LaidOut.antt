@@ -1,22 +1,27 @@
 -- Columns that are written at once.
-use Rattle.std.proofs.Common.{◌≡◌, ℕ, ◌<◌, List, [], ◌∷◌, length, get_or, map, refl, sym, ap, ◌∙◌, subst, Bool, true, false, ℤ, pos}
+use Rattle.std.proofs.Common.{◌≡◌, ℕ, ◌+◌, ◌<◌, List, [], ◌∷◌, length, get_or, map, refl, sym, ap, ◌∙◌, subst, arith, Bool, true, false, ℤ, pos}
 use Rattle.std.specs.Global.{Vec}
 use Rattle.std.specs.Prelude.{Result, Ok, Err, IfOk, IfSome, Option, Some, None}
 use Rattle.std.proofs.lemmas.List.{get_or-map, length-map}
 use Rattle.vx_dtype.specs.declared.dtype.PType.{PType}
-use Rattle.vx_value.specs.Types.{Datum, ty, Shape, atomic, truth, number, floating, decimals, date, timestamp, text, octets, list, fixed, struct, null, bool, int}
+use Rattle.vx_dtype.specs.declared.float_type.FloatType.{FloatType}
+use Rattle.vx_value.specs.Types.{Datum, ty, Shape, atomic, truth, number, floating, decimals, date, timestamp, text, octets, list, fixed, struct, null, bool, int, float}
 use Rattle.vx_value.specs.Columns.{Batch, batch, first_misfit}
+use Rattle.vx_array.specs.declared.floats.Floats.{Floats}
 use Rattle.vx_array.specs.declared.validity.Validity.{Validity}
+use Rattle.vx_array.specs.Kinds.{bits_in, float_of, floats_in, format_in}
 use Rattle.vx_array.specs.Shown as shown
 use Rattle.vx_array.specs.Shown.{shown_count}
+use Rattle.vx_array_build.specs.FloatBits.{float_row}
 use Rattle.vx_array_build.specs.Lanes.{lane_of}
 use Rattle.vx_data_buffers.specs.Results.{and_so}
 use Rattle.vx_data_buffers.specs.Layout.{buffer_count, found, present_at}
 use Rattle.vx_data_buffers.specs.Rows.{column_said}
-use Rattle.vx_data_buffers.specs.Arrays.{IsColumn, Tells}
-use Rattle.vx_data_buffers.specs.Laid.{AreBuffersOf, HaveTruths, HaveValues, SayValid, lists_in, packed_bytes}
+use Rattle.vx_data_buffers.specs.Arrays.{AreNumbers, IsColumn, Tells}
+use Rattle.vx_data_buffers.specs.Bytes.{bits_type}
+use Rattle.vx_data_buffers.specs.Laid.{AreBuffersOf, HaveFloats, HaveTruths, HaveValues, SayValid, lists_in, packed_bytes}
 use Rattle.vx_data_buffers.proofs.ByteBits.{packed_are}
-use Rattle.vx_data_buffers.proofs.Columns.{column_read, lane_read, said_whole}
+use Rattle.vx_data_buffers.proofs.Columns.{bits_read, column_read, lane_read, said_whole}
 
 -- the two buffers of truth values
 pub have_truths : {E : Type 0} (r : Result (Vec (Vec ℕ)) E) (valid values : List ℕ) (bits : List Bool) (v : Validity) → IfOk r (λ b. lists_in b.items ≡ valid ∷ values ∷ []) → SayValid valid (length bits) v → values ≡ packed_bytes bits
@@ -63,6 +68,35 @@ laid_values array s n ns v buffers typed rows fit all (valid, values, is, say, (
     rw is (laid array s n (map int ns) v valid values (lane_buffers s p n lane) typed rows fit (rw long all) (rw long say)
     (λ i h. let low : i < length ns = subst (λ m. i < m) long h in
     lane_read (valid ∷ values ∷ []) s p 1 i lane ∙ ap (λ r. and_so (found 1 r) int) (are.1 i low) ∙ ap Ok (sym (get_or-map int ns i (pos 0) null low))))
+
+-- the two buffers of floating-point numbers
+pub have_floats : (s : Shape) (fs : Floats) (f : FloatType) (p : PType) (ns : List ℤ) (valid values : List ℕ) (v : Validity) (m : ℕ) (buffers : List (List ℕ)) → s ≡ atomic (floating f) → format_in fs ≡ f → p ≡ bits_type f → ns ≡ map (λ b. pos b) (bits_in fs) → buffers ≡ valid ∷ values ∷ [] → m ≡ length (floats_in fs) → SayValid valid m v
+    → AreNumbers p values (length ns) ns → HaveFloats s fs v buffers
+have_floats s fs f p ns valid values v m buffers shape format width bits are long say spelled =
+    let counted : length ns ≡ length (floats_in fs) = ap length bits ∙ length-map (bits_in fs) (λ b. pos b) ∙ sym (length-map (bits_in fs) (float_of (format_in fs))) in (
+      shape ∙ ap (λ g. atomic (floating g)) (sym format),
+      valid,
+      values,
+      are,
+      subst (λ k. SayValid valid k v) long say,
+      subst (λ q. AreNumbers q values (length (floats_in fs)) (map (λ b. pos b) (bits_in fs))) (width ∙ ap bits_type (sym format)) (subst (λ k. AreNumbers p values k (map (λ b. pos b) (bits_in fs))) counted (subst (λ l. AreNumbers p values (length ns) l) bits spelled)),
+    )
+
+-- the row of a floating-point number, by the number that has its bits
+row_of_bits : (f : FloatType) (bs : List ℕ) (i : ℕ) → i < length bs → get_or (map float (map (float_of f) bs)) i null ≡ float_row f (int (get_or (map (λ b. pos b) bs) i (pos 0)))
+row_of_bits f bs i h =
+    get_or-map float (map (float_of f) bs) i (float_of f 0) null (omega (arith, h, length-map bs (float_of f))) ∙ ap float (get_or-map (float_of f) bs i 0 (float_of f 0) h)
+    ∙ ap (λ z. float_row f (int z)) (sym (get_or-map (λ b. pos b) bs i 0 (pos 0) h))
+
+pub laid_floats : (array : Batch) (s : Shape) (n : Bool) (fs : Floats) (v : Validity) (buffers : List (List ℕ)) → array.type ≡ ty s n → array.rows ≡ shown.shown v (map float (floats_in fs)) → first_misfit array.type array.rows ≡ None
+    → shown_count v (length (floats_in fs)) ≡ length (floats_in fs) → HaveFloats s fs v buffers → AreBuffersOf array buffers
+laid_floats array s n fs v buffers typed rows fit all (shape, valid, values, is, say, are) =
+    let f = format_in fs in
+    let long : length (map float (floats_in fs)) ≡ length (floats_in fs) = length-map (floats_in fs) float in
+    rw is (laid array (atomic (floating f)) n (map float (floats_in fs)) v valid values refl (typed ∙ ap (λ u. ty u n) shape) rows fit (rw long all) (rw long say)
+    (λ i h. let low : i < length (floats_in fs) = subst (λ m. i < m) long h in
+    let (x, read, told) = bits_read f values i (get_or (map (λ b. pos b) (bits_in fs)) i (pos 0)) (are.1 i low) in
+    ap (λ r. and_so (found 1 r) float) read ∙ ap Ok (told ∙ sym (row_of_bits f (bits_in fs) i (omega (arith, low, length-map (bits_in fs) (float_of f)))))))
 
 -- what there is is as well what follows of it
 pub some_laid : {A E : Type 0} {P Q : A → Type 0} (r : Result (Option A) E) → ((a : A) → P a → Q a) → IfOk r (λ found. IfSome found P) → IfOk r (λ found. IfSome found Q)

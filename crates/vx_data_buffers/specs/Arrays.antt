@@ -1,13 +1,15 @@
 -- Columns that are read at once.
 use Rattle.std.specs.Prelude.{◌≡◌, ℕ, ◌<◌, Bool, true, false, List, map, length, get_or, ℤ, pos, Option, Some, None, Ok, if◌then◌else◌}
 use Rattle.vx_dtype.specs.declared.dtype.PType.{PType}
-use Rattle.vx_value.specs.Types.{LogicalType, Shape, Fields, null, int}
+use Rattle.vx_dtype.specs.declared.float_type.FloatType.{FloatType}
+use Rattle.vx_value.specs.Types.{LogicalType, Shape, atomic, floating, Fields, null, int}
 use Rattle.vx_value.specs.Columns.{Batch}
 use Rattle.vx_value.specs.StructColumns.{row_at, rows_in}
 use Rattle.vx_array.specs.declared.validity.Validity.{Validity}
 use Rattle.vx_array.specs.Shown as shown
 use Rattle.vx_array.specs.Shown.{shown_count}
 use Rattle.vx_array_build.specs.Built.{column_by}
+use Rattle.vx_array_build.specs.FloatBits.{float_row}
 use Rattle.vx_array_build.specs.Lanes.{lane_of}
 use Rattle.vx_data_buffers.specs.Bytes.{bit_of, number_at}
 use Rattle.vx_data_buffers.specs.Layout.{is_valid, fields_at, value_at}
@@ -27,6 +29,10 @@ AreValues s bytes rows ns = (p : PType) × (lane_of s ≡ Some p) × AreNumbers 
 -- the batch has so many values of the type, which lie in the bytes as numbers
 abbrev pub HasNumbers : List ℕ → Shape → ℕ → Option Validity → Batch → Type 0
 HasNumbers bytes s rows v b = (ns : List ℤ) × AreValues s bytes rows ns × (b ≡ column_by s v (map int ns))
+
+-- the batch has so many floating-point numbers of the format, whose bits lie in the bytes as numbers of the type
+abbrev pub HasFloats : List ℕ → FloatType → PType → ℕ → Option Validity → Batch → Type 0
+HasFloats bytes f p rows v b = (ns : List ℤ) × AreNumbers p bytes rows ns × (b ≡ column_by (atomic (floating f)) v (map (float_row f) (map int ns)))
 
 -- the validity says of so many rows what the buffer of that index says, and of a type without null that no row is null
 pub record Tells (buffers : List (List ℕ)) (at rows : ℕ) (nullable : Bool) (v : Validity) : Type 0 where

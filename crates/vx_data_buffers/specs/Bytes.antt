@@ -57,6 +57,11 @@ abbrev pub float_width : FloatType → ℕ
 float_width F32 = 4
 float_width F64 = 8
 
+-- the type of the numbers that have the bits of a format's
+abbrev pub bits_type : FloatType → PType
+bits_type F32 = U32
+bits_type F64 = U64
+
 -- the floating-point number whose bits the bytes spell, little endian; each NaN is the quiet one
 abbrev pub float_of : FloatType → List ℕ → Float
 float_of F32 bytes = canonical (bits.F32 (from_le_bytes w32 bytes))

@@ -1,15 +1,17 @@
 -- Columns that are written into buffers.
-use Rattle.std.specs.Prelude.{◌≡◌, ℕ, zero, suc, ◌+◌, ◌*◌, ◌<◌, ◌==◌, Bool, true, false, List, [], ◌∷◌, ◌++◌, ℤ, length, map, get_or, Ok, if◌then◌else◌}
+use Rattle.std.specs.Prelude.{◌≡◌, ℕ, zero, suc, ◌+◌, ◌*◌, ◌<◌, ◌==◌, Bool, true, false, List, [], ◌∷◌, ◌++◌, ℤ, pos, length, map, get_or, Ok, if◌then◌else◌}
 use Rattle.std.specs.Int.{div_ceil}
 use Rattle.std.specs.Global.{Vec}
-use Rattle.vx_value.specs.Types.{Shape}
+use Rattle.vx_value.specs.Types.{Shape, atomic, floating}
 use Rattle.vx_value.specs.Columns.{Batch}
+use Rattle.vx_array.specs.declared.floats.Floats.{Floats}
 use Rattle.vx_array.specs.declared.validity.Validity.{Validity}
+use Rattle.vx_array.specs.Kinds.{bits_in, floats_in, format_in}
 use Rattle.vx_array.specs.Shown as shown
 use Rattle.vx_array_loops.specs.WordBits.{each_row}
 use Rattle.vx_dtype.specs.declared.dtype.PType.{PType}
-use Rattle.vx_data_buffers.specs.Arrays.{AreBits, AreValues}
-use Rattle.vx_data_buffers.specs.Bytes.{bit_of, number_of, width}
+use Rattle.vx_data_buffers.specs.Arrays.{AreBits, AreNumbers, AreValues}
+use Rattle.vx_data_buffers.specs.Bytes.{bit_of, bits_type, number_of, width}
 use Rattle.vx_data_buffers.specs.Layout.{found}
 use Rattle.vx_data_buffers.specs.Rows.{column_said}
 
@@ -45,3 +47,9 @@ HaveTruths bits v buffers = (valid values : List ℕ) × (buffers ≡ valid ∷ 
 -- the same of numbers as which values of a type lie there
 abbrev pub HaveValues : Shape → List ℤ → Validity → List (List ℕ) → Type 0
 HaveValues s ns v buffers = (valid values : List ℕ) × (buffers ≡ valid ∷ values ∷ []) × SayValid valid (length ns) v × AreValues s values (length ns) ns
+
+-- the same of the bits of floating-point numbers, of which the shape is
+abbrev pub HaveFloats : Shape → Floats → Validity → List (List ℕ) → Type 0
+HaveFloats s fs v buffers =
+    (s ≡ atomic (floating (format_in fs)))
+    × (valid values : List ℕ) × (buffers ≡ valid ∷ values ∷ []) × SayValid valid (length (floats_in fs)) v × AreNumbers (bits_type (format_in fs)) values (length (floats_in fs)) (map (λ b. pos b) (bits_in fs))

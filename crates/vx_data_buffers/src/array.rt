@@ -16,6 +16,7 @@ ghost use Rattle.vx_dtype.specs.Fields.{fields_named};
 use crate::buffer::bytes_at;
 use crate::column::column_of;
 use crate::counts::buffer_count;
+use crate::floats::floats_in;
 use crate::numbers::numbers_in;
 use crate::validity::{bits_in, if_nullable, validity_at};
 use crate::{Buffer, BufferError};
@@ -25,8 +26,9 @@ use vx_array_build::{booleans, struct_of};
 use vx_types::{Column, DType, StructFields, VortexError, VortexResult};
 
 /// The array of that type whose rows these buffers have, so many of them: the rows of [`column_of`], or its
-/// refusal. Truth values, whole numbers, days, instants and structs of them are read at once, into buffers of
-/// the array's own. Where the type has other values, or a row is refused, rows are read one by one, as there.
+/// refusal. Truth values, whole and floating-point numbers, days, instants and structs of them are read at
+/// once, into buffers of the array's own. Where the type has other values, or a row is refused, rows are
+/// read one by one, as there.
 ///
 /// Takes time in the number of the values, and for each struct in that of the buffers inside it.
 pub fn array_of(
@@ -100,6 +102,9 @@ fn array_at(
     let next = at + 1;
     match t {
         DType::Bool(_) => truths_in(alloc, bytes_at(buffers, next), rows, validity),
+        DType::Float(float_type, _) => {
+            floats_in(alloc, bytes_at(buffers, next), *float_type, rows, validity)
+        }
         DType::Struct(fields, _) => match columns_at(alloc, buffers, fields, next, rows)? {
             Some(columns) => structs_of(alloc, fields, columns.as_slice(), rows, validity),
             None => Ok(None),

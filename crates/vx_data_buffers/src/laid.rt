@@ -1,23 +1,24 @@
 // Columns into buffers.
 ghost use Rattle.std.specs.Prelude.{◌≡◌, ◌∷◌, IfOk, IfSome, [], length, true};
-ghost use Rattle.vx_array.specs.Kinds.{numbers_in};
+ghost use Rattle.vx_array.specs.Kinds.{floats_in, numbers_in};
 ghost use Rattle.vx_array.specs.Shown.{shown_count};
 ghost use Rattle.vx_value.specs.Types.{shape_of};
 ghost use Rattle.vx_value.specs.Views.{type_of};
-ghost use Rattle.vx_data_buffers.specs.Laid.{AreBuffersOf, HaveTruths, HaveValues, lists_in};
+ghost use Rattle.vx_data_buffers.specs.Laid.{AreBuffersOf, HaveFloats, HaveTruths, HaveValues, lists_in};
 
 use crate::LayoutError;
+use crate::floats::bits_type;
 use crate::packed::{packed, validity_bytes};
 use crate::read_back::rows_laid;
 use crate::spelled::number_bytes;
 use std::alloc::{AllocError, Global};
-use vx_array::{Array, BitPart, Lanes, Numbers, Validity};
+use vx_array::{Array, BitPart, Floats, Lanes, Numbers, Validity};
 use vx_array_build::lane_type;
 use vx_types::DType;
 
 /// Buffers of the array's rows, laid out and in the order in which [`array_of`](crate::array_of) reads them:
-/// what this reads of them is the array. Truth values, whole numbers, days and instants are written at once,
-/// from where they lie. Of other types rows are written one by one.
+/// what this reads of them is the array. Truth values, whole and floating-point numbers, days and instants are
+/// written at once, from where they lie. Of other types rows are written one by one.
 ///
 /// Refuses with `OutOfMemory`, and with `TooLong` where texts, bytes or items take more than offsets of 32
 /// bits can say.
@@ -41,6 +42,9 @@ fn laid_at_once(alloc: Global, array: &Array) -> Result<Option<Vec<Vec<u8>>>, Al
         },
         Lanes::Numbers(numbers, validity) if is_whole(validity, numbers.len()) => {
             numbers_laid(alloc, array.dtype(), numbers, validity)
+        }
+        Lanes::Floats(floats, validity) if is_whole(validity, floats.len()) => {
+            floats_laid(alloc, array.dtype(), floats, validity)
         }
         _ => Ok(None),
     }
@@ -86,6 +90,30 @@ fn numbers_laid(
     };
     let valid = validity_bytes(alloc, validity, numbers.len())?;
     Ok(Some(two(alloc, valid, values)?))
+}
+
+// The two buffers of floating-point numbers of the type, with the bits that they have. None where they are of
+// another format.
+fn floats_laid(
+    alloc: Global,
+    dtype: &DType,
+    floats: &Floats,
+    validity: &Validity,
+) -> Result<Option<Vec<Vec<u8>>>, AllocError>
+    requires { shown_count validity.now (length (floats_in floats.now)) ≡ length (floats_in floats.now) }
+    ensures { IfOk result (λ found. IfSome found (λ buffers. HaveFloats (shape_of (type_of dtype.now)) floats.now validity.now (lists_in buffers.items))) }
+{
+    let DType::Float(float_type, _) = dtype else {
+        return Ok(None);
+    };
+    let Some(bits) = floats.to_bits(*float_type)? else {
+        return Ok(None);
+    };
+    let Some(spelled) = number_bytes(alloc, bits_type(*float_type), &bits)? else {
+        return Ok(None);
+    };
+    let valid = validity_bytes(alloc, validity, floats.len())?;
+    Ok(Some(two(alloc, valid, spelled)?))
 }
 
 // A list of the two.

@@ -8,6 +8,7 @@ mod column;
 mod counts;
 mod error;
 mod fault;
+mod floats;
 mod laid;
 mod leaves;
 mod numbers;

@@ -54,7 +54,11 @@ fn natives<T: Native>(
 }
 
 // So many numbers, where they are there.
-fn read<T: Native>(alloc: Global, bytes: &[u8], rows: usize) -> Result<Option<Vec<T>>, AllocError>
+pub(crate) fn read<T: Native>(
+    alloc: Global,
+    bytes: &[u8],
+    rows: usize,
+) -> Result<Option<Vec<T>>, AllocError>
     ensures { IfOk result (λ found. IfSome found (λ ns. AreNumbers T.kind bytes.now rows (map T.number ns.items))) }
 {
     // (no memory is asked for where the buffer ends early)

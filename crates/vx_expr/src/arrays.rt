@@ -4,8 +4,8 @@
 //! call. Clones and slices share the buffers.
 pub use vx_array::{Array, BitPart, Validity};
 pub use vx_array_build::{
-    Native, are_within, binaries, booleans, concat, constant, days, filter, from_column, instants,
-    primitive, struct_of, take, texts,
+    Native, NativeFloat, are_within, binaries, booleans, concat, constant, days, filter, floats,
+    from_column, instants, primitive, struct_of, take, texts,
 };
 pub use vx_array_eval::apply_array;
 pub use vx_array_loops::Bits;

@@ -1,6 +1,9 @@
 // Arrays as they are shown, their nulls, and arrays one after another.
 use std::alloc::Global;
-use vx_expr::arrays::{Array, BitPart, Bits, Validity, concat, days, instants, primitive, texts};
+use std::num::f64_from_bits_with_nan;
+use vx_expr::arrays::{
+    Array, BitPart, Bits, Validity, concat, days, floats, instants, primitive, texts,
+};
 use vx_expr::dtype::{TimeUnit, TimestampType};
 use vx_expr::prelude::*;
 
@@ -65,6 +68,29 @@ fn instants_are_shown(rt: HostRuntime) -> VortexResult<()> {
     let found = instants(alloc, seconds, vec![in alloc; -1i64, 4294967296]?, None)?;
     let page = format!(in alloc; "{found}")?;
     assert_eq!(rt; page.as_str(), "[1969-12-31T23:59:59, 2106-02-07T06:28:16]");
+    Ok(())
+}
+
+#[test]
+fn floats_one_after_another_are_shown(rt: HostRuntime) -> VortexResult<()> {
+    let alloc = rt.alloc();
+    let nan = f64_from_bits_with_nan(0xfff0_0000_0000_0001);
+    let first = floats(alloc, vec![in alloc; 9.99f64, -0.0, nan]?, None)?;
+    let more = floats(alloc, vec![in alloc; 5e-1f64]?, None)?;
+    let dtype = first.dtype().clone()?;
+    let page = format!(in alloc; "{} of {dtype}", concat(alloc, &dtype, &[first, more])?)?;
+    assert_eq!(rt; page.as_str(), "[9.99f64, -0.0f64, nanf64, 0.5f64] of f64");
+    Ok(())
+}
+
+#[test]
+fn floats_of_32_bits_are_shown(rt: HostRuntime) -> VortexResult<()> {
+    let alloc = rt.alloc();
+    let valid = Bits::from_bools(alloc, &[true, false])?;
+    let validity = Validity::Rows(BitPart::new(alloc, valid)?);
+    let found = floats(alloc, vec![in alloc; 0.1f32, 0.2]?, Some(validity))?;
+    let page = format!(in alloc; "{found} of {}", found.dtype())?;
+    assert_eq!(rt; page.as_str(), "[0.1f32, null] of f32?");
     Ok(())
 }
 

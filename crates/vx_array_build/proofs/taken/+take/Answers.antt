@@ -3,18 +3,23 @@ use Rattle.std.specs.List.{range_with_len}
 use Rattle.std.proofs.lemmas.List.{length-replicate}
 use Rattle.std.proofs.lemmas.List.FromFn.{length-range_with_len}
 use Rattle.vx_value.specs.StructColumns.{struct_at}
-use Rattle.vx_value.specs.Types.{bool, bytes, int}
+use Rattle.vx_value.specs.Types.{bool, bytes, float, int}
 use Rattle.vx_value.specs.Views.{value_of}
-use Rattle.vx_array.specs.Kinds.{numbers_in, spans_in, text_row}
+use Rattle.vx_array.specs.Kinds.{bits_in, floats_in, format_in, numbers_in, spans_in, text_row}
 use Rattle.vx_array.specs.Rows.{lanes_each, lanes_rows, structs_from}
 use Rattle.vx_array.specs.Shown.{shown}
-use Rattle.vx_array.proofs.Held.{rows-Same, rows-Bools, rows-Numbers, rows-Texts, rows-Octets, rows-Structs}
+use Rattle.vx_array.proofs.Held.{rows-Same, rows-Bools, rows-Numbers, rows-Floats, rows-Texts, rows-Octets, rows-Structs}
+use Rattle.vx_array_build.specs.FloatBits.{float_row}
 use Rattle.vx_array_build.specs.Taken.{AreWithin, rows_at}
+use Rattle.vx_array_build.proofs.Reals.{rows_of_each}
 use Rattle.vx_array_build.proofs.Taking.{among, made_each, made_taken, same_taken, structs_taken}
 use Rattle.vx_array_build.proofs.taken.+take.Goals as goal
 
 pub taken-numbers_taken-requires : goal.taken-numbers_taken-requires
 taken-numbers_taken-requires t c = among int c.in-Numbers.validity (numbers_in c.in-Numbers.numbers) (lanes_rows c.args.lanes.now) c.args.indices.now (ap lanes_rows c.in-Numbers.is ∙ rows-Numbers c.in-Numbers.numbers c.in-Numbers.validity) (subst (AreWithin c.args.indices.now) c.len.ensures (c.are_within.ensures.0 c.if-not-are_within.false))
+
+pub taken-floats_taken-requires : goal.taken-floats_taken-requires
+taken-floats_taken-requires t c = among float c.in-Floats.validity (floats_in c.in-Floats.floats) (lanes_rows c.args.lanes.now) c.args.indices.now (ap lanes_rows c.in-Floats.is ∙ rows-Floats c.in-Floats.floats c.in-Floats.validity) (subst (AreWithin c.args.indices.now) c.len.ensures (c.are_within.ensures.0 c.if-not-are_within.false))
 
 pub taken-spans_taken-requires : goal.taken-spans_taken-requires
 taken-spans_taken-requires t c = among text_row c.in-Texts.validity (spans_in c.in-Texts.spans) (lanes_rows c.args.lanes.now) c.args.indices.now (ap lanes_rows c.in-Texts.is ∙ rows-Texts c.in-Texts.spans c.in-Texts.validity) (subst (AreWithin c.args.indices.now) c.len.ensures (c.are_within.ensures.0 c.if-not-are_within.false))
@@ -53,6 +58,17 @@ taken-returns-in_ok-validity_taken-in-Numbers t c =
     let ns = c.in_ok-numbers-in-Numbers.numbers in
     rows-Numbers ns v
     ∙ made_each int s.validity v (numbers_in s.numbers) (numbers_in ns) c.args.indices.now (pos 0) (lanes_rows c.args.lanes.now) (ap lanes_rows s.is ∙ rows-Numbers s.numbers s.validity) (subst (AreWithin c.args.indices.now) c.len.ensures (c.are_within.ensures.0 c.if-not-are_within.false)) c.in_ok-validity_taken-in-Numbers.ensures c.in_ok-numbers-in-Numbers.ensures
+
+pub taken-returns-in_ok-validity_taken-in-Floats : goal.taken-returns-in_ok-validity_taken-in-Floats
+taken-returns-in_ok-validity_taken-in-Floats t c =
+    let s = c.in-Floats in
+    let v = c.in_ok-validity_taken-in-Floats.field-0 in
+    let fs = c.in_ok-floats-in-Floats.floats in
+    let f = format_in s.floats in
+    let old = map (λ b. pos b) (bits_in s.floats) in
+    let new = map (λ b. pos b) (bits_in fs) in
+    rows_of_each f fs v new c.in_ok-floats-in-Floats.ensures.format refl
+    ∙ made_each (λ z. float_row f (int z)) s.validity v old new c.args.indices.now (pos 0) (lanes_rows c.args.lanes.now) (ap lanes_rows s.is ∙ rows_of_each f s.floats s.validity old refl refl) (subst (AreWithin c.args.indices.now) c.len.ensures (c.are_within.ensures.0 c.if-not-are_within.false)) c.in_ok-validity_taken-in-Floats.ensures c.in_ok-floats-in-Floats.ensures.bits
 
 pub taken-returns-in_ok-validity_taken-in-Texts : goal.taken-returns-in_ok-validity_taken-in-Texts
 taken-returns-in_ok-validity_taken-in-Texts t c =

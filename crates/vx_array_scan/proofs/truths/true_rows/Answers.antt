@@ -1,12 +1,12 @@
 use Rattle.std.proofs.Common.{◌≡◌, IfOk, ap, sym, subst, ◌∙◌, map, refl, length, false, replicate}
 use Rattle.std.specs.List.{range_with_len}
 use Rattle.vx_value.specs.StructColumns.{struct_at}
-use Rattle.vx_value.specs.Types.{bytes, int}
+use Rattle.vx_value.specs.Types.{bytes, float, int}
 use Rattle.vx_value.specs.Views.{value_of}
 use Rattle.vx_fn.specs.Values.{is_true}
-use Rattle.vx_array.specs.Kinds.{numbers_in, spans_in, text_row}
+use Rattle.vx_array.specs.Kinds.{floats_in, numbers_in, spans_in, text_row}
 use Rattle.vx_array.specs.Rows.{lanes_each, lanes_rows}
-use Rattle.vx_array.proofs.Held.{rows-Bools, rows-Numbers, rows-Octets, rows-Same, rows-Structs, rows-Texts, rows-Values}
+use Rattle.vx_array.proofs.Held.{rows-Bools, rows-Floats, rows-Numbers, rows-Octets, rows-Same, rows-Structs, rows-Texts, rows-Values}
 use Rattle.vx_array_scan.proofs.TrueRows.{none_shown, text_false, true_same}
 use Rattle.vx_array_scan.proofs.truths.true_rows.Goals as goal
 
@@ -33,6 +33,12 @@ returns-in-Numbers c =
     let s = c.in-Numbers in
     let is = ap lanes_rows s.is ∙ rows-Numbers s.field-0 s.field-1 in
     subst (λ want. IfOk c.zeros.result (λ rows. rows ≡ want)) (ap (λ n. replicate n false) (c.len.ensures ∙ ap length is) ∙ none_shown int s.field-1 (numbers_in s.field-0) (λ x. refl) ∙ ap (map is_true) (sym is)) c.zeros.ensures
+
+pub returns-in-Floats : goal.returns-in-Floats
+returns-in-Floats c =
+    let s = c.in-Floats in
+    let is = ap lanes_rows s.is ∙ rows-Floats s.field-0 s.field-1 in
+    subst (λ want. IfOk c.zeros-in-Floats.result (λ rows. rows ≡ want)) (ap (λ n. replicate n false) (c.len-in-Floats.ensures ∙ ap length is) ∙ none_shown float s.field-1 (floats_in s.field-0) (λ x. refl) ∙ ap (map is_true) (sym is)) c.zeros-in-Floats.ensures
 
 pub returns-in-Texts : goal.returns-in-Texts
 returns-in-Texts c =

@@ -6,13 +6,13 @@ use Rattle.vx_dtype.specs.Fields.{fields_named}
 use Rattle.vx_dtype.specs.Types.{is_nullable}
 use Rattle.vx_value.specs.Fields.{field_count}
 use Rattle.vx_value.specs.StructColumns.{row_at, rows_in, types_in}
-use Rattle.vx_value.specs.Types.{ty, atomic, truth, struct, shape_of, bool, null}
+use Rattle.vx_value.specs.Types.{ty, atomic, truth, floating, struct, shape_of, bool, null}
 use Rattle.vx_value.specs.Views.{admits_null, fields_of, names_of, type_of}
 use Rattle.vx_array_build.specs.Built.{column_by, structs_by}
-use Rattle.vx_data_buffers.specs.Arrays.{AreBits, HasNumbers, HaveFields, IsColumn, Tells, if_nullable}
-use Rattle.vx_data_buffers.specs.Bytes.{bytes_in}
+use Rattle.vx_data_buffers.specs.Arrays.{AreBits, HasFloats, HasNumbers, HaveFields, IsColumn, Tells, if_nullable}
+use Rattle.vx_data_buffers.specs.Bytes.{bits_type, bytes_in}
 use Rattle.vx_data_buffers.specs.Layout.{buffer_count, field_buffer_count, fields_at}
-use Rattle.vx_data_buffers.proofs.Columns.{as_shape, found_so, numbers_read, row_grown, structs_read, truths_read, types_grown, view_taken}
+use Rattle.vx_data_buffers.proofs.Columns.{as_shape, floats_read, found_so, numbers_read, row_grown, structs_read, truths_read, types_grown, view_taken}
 use Rattle.vx_data_buffers.proofs.Fields.{count_next, field_more}
 use Rattle.vx_data_buffers.proofs.array.+array.Goals as goal
 
@@ -28,6 +28,22 @@ array_at-returns-in-Bool t c =
     (λ a h. subst (λ s. IsColumn bs s c.args.at c.args.rows a) (sym typed)
     (subst (IsColumn bs (ty (atomic truth) n) c.args.at c.args.rows) (sym (h.2 ∙ ap (λ w. column_by (atomic truth) w (map bool h.0)) c.if_nullable-validity.ensures))
     (truths_read bs c.args.at c.args.rows n v h.0 tells (subst (λ b. AreBits b c.args.rows h.0) c.bytes_at.ensures h.1)))) c.truths_in.ensures
+
+pub array_at-returns-in-Float : goal.array_at-returns-in-Float
+array_at-returns-in-Float t c =
+    let bs = bytes_in c.args.buffers.now in
+    let n = c.is_nullable-is_nullable.result in
+    let v = c.in-Some.validity in
+    let f = c.in-Float.float_type in
+    let bytes = c.bytes_at-in-Float in
+    let kind : type_of c.args.t.now ≡ ty (atomic (floating f)) (admits_null c.in-Float.field-1) = rw c.in-Float.is (search (rules, the_types)) in
+    let typed : type_of c.args.t.now ≡ ty (atomic (floating f)) n = kind ∙ ap (ty (atomic (floating f))) (sym (c.is_nullable-is_nullable.ensures ∙ ap is_nullable kind)) in
+    let tells : Tells bs c.args.at c.args.rows n v = subst (λ found. IfSome found (Tells bs c.args.at c.args.rows n)) c.in-Some.is c.in_ok-validity.ensures in
+    found_so c.floats_in.result
+    (λ a h. subst (λ u. IsColumn bs u c.args.at c.args.rows a) (sym typed)
+    (floats_read bs f c.args.at c.args.rows n v a tells
+    (subst (λ b. HasFloats b f (bits_type f) c.args.rows (if_nullable n v) a) bytes.ensures
+    (subst (λ w. HasFloats bytes.result.now f (bits_type f) c.args.rows w a) c.if_nullable-validity.ensures h)))) c.floats_in.ensures
 
 pub array_at-returns-in_default-t : goal.array_at-returns-in_default-t
 array_at-returns-in_default-t t c =

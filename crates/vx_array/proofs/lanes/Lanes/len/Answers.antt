@@ -2,10 +2,10 @@ use Rattle.std.proofs.Common.{ap, sym, ◌∙◌}
 use Rattle.std.specs.List.{range_with_len}
 use Rattle.std.proofs.lemmas.List.FromFn.{length-range_with_len}
 use Rattle.vx_value.specs.StructColumns.{struct_at}
-use Rattle.vx_value.specs.Types.{bool, int, bytes}
-use Rattle.vx_array.specs.Kinds.{numbers_in, spans_in, text_row}
+use Rattle.vx_value.specs.Types.{bool, int, float, bytes}
+use Rattle.vx_array.specs.Kinds.{floats_in, numbers_in, spans_in, text_row}
 use Rattle.vx_array.specs.Rows.{lanes_rows, lanes_each}
-use Rattle.vx_array.proofs.Held.{rows-Bools, rows-Numbers, rows-Texts, rows-Octets, rows-Structs}
+use Rattle.vx_array.proofs.Held.{rows-Bools, rows-Numbers, rows-Floats, rows-Texts, rows-Octets, rows-Structs}
 use Rattle.vx_array.proofs.Masked.{len_is}
 use Rattle.vx_array.proofs.lanes.Lanes.len.Goals as goal
 
@@ -14,6 +14,9 @@ returns-in-Bools c = len_is bool c.in-Bools.validity c.in-Bools.values (lanes_ro
 
 pub returns-in-Numbers : goal.returns-in-Numbers
 returns-in-Numbers c = len_is int c.in-Numbers.validity (numbers_in c.in-Numbers.values) (lanes_rows c.args.self.now) c.count-in-Numbers.result c.len-in-Numbers.result c.count-in-Numbers.ensures c.len-in-Numbers.ensures (ap lanes_rows c.in-Numbers.is ∙ rows-Numbers c.in-Numbers.values c.in-Numbers.validity)
+
+pub returns-in-Floats : goal.returns-in-Floats
+returns-in-Floats c = len_is float c.in-Floats.validity (floats_in c.in-Floats.values) (lanes_rows c.args.self.now) c.count-in-Floats.result c.len-in-Floats.result c.count-in-Floats.ensures c.len-in-Floats.ensures (ap lanes_rows c.in-Floats.is ∙ rows-Floats c.in-Floats.values c.in-Floats.validity)
 
 pub returns-in-Texts : goal.returns-in-Texts
 returns-in-Texts c = len_is text_row c.in-Texts.validity (spans_in c.in-Texts.values) (lanes_rows c.args.self.now) c.count-in-Texts.result c.len-in-Texts.result c.count-in-Texts.ensures c.len-in-Texts.ensures (ap lanes_rows c.in-Texts.is ∙ rows-Texts c.in-Texts.values c.in-Texts.validity)

@@ -1,11 +1,11 @@
 use Rattle.std.proofs.Common.{ap, refl, ◌∙◌}
 use Rattle.std.specs.List.{range_with_len}
 use Rattle.vx_value.specs.StructColumns.{struct_at}
-use Rattle.vx_value.specs.Types.{bool, bytes, int}
-use Rattle.vx_array.specs.Kinds.{numbers_in, spans_in, text_row}
+use Rattle.vx_value.specs.Types.{bool, bytes, float, int}
+use Rattle.vx_array.specs.Kinds.{floats_in, numbers_in, spans_in, text_row}
 use Rattle.vx_array.specs.Rows.{lanes_each, lanes_rows, structs_from}
 use Rattle.vx_array.specs.Shown.{shown}
-use Rattle.vx_array.proofs.Held.{rows-Bools, rows-Numbers, rows-Texts, rows-Octets, rows-Structs}
+use Rattle.vx_array.proofs.Held.{rows-Bools, rows-Numbers, rows-Floats, rows-Texts, rows-Octets, rows-Structs}
 use Rattle.vx_array.proofs.Joined.{masked_is}
 use Rattle.vx_array.proofs.lanes.Lanes.masked_further.Goals as goal
 
@@ -24,6 +24,14 @@ returns-in_ok-clone-in-Numbers c =
     let xs = c.in-Numbers.values in
     let ys = c.in_ok-clone-in-Numbers.field-0 in
     masked_is int c.args.validity.now own all.both (numbers_in xs) (numbers_in ys) (lanes_rows c.args.self.now) _ (ap lanes_rows c.in-Numbers.is ∙ rows-Numbers xs own) (rows-Numbers ys all.both) (ap numbers_in c.in_ok-clone-in-Numbers.ensures.cases) all.ensures.each all.ensures.count
+
+pub returns-in_ok-clone-in-Floats : goal.returns-in_ok-clone-in-Floats
+returns-in_ok-clone-in-Floats c =
+    let own = c.in-Floats.own in
+    let all = c.in_ok-both-in-Floats in
+    let xs = c.in-Floats.values in
+    let ys = c.in_ok-clone-in-Floats.field-0 in
+    masked_is float c.args.validity.now own all.both (floats_in xs) (floats_in ys) (lanes_rows c.args.self.now) _ (ap lanes_rows c.in-Floats.is ∙ rows-Floats xs own) (rows-Floats ys all.both) (ap floats_in c.in_ok-clone-in-Floats.ensures.cases) all.ensures.each all.ensures.count
 
 pub returns-in_ok-clone-in-Texts : goal.returns-in_ok-clone-in-Texts
 returns-in_ok-clone-in-Texts c =

@@ -4,12 +4,12 @@ use Rattle.std.specs.List.{range_with_len}
 use Rattle.std.proofs.lemmas.Simd.{length-replicate}
 use Rattle.std.proofs.lemmas.List.FromFn.{length-range_with_len}
 use Rattle.vx_value.specs.StructColumns.{struct_at}
-use Rattle.vx_value.specs.Types.{bool, int, bytes}
+use Rattle.vx_value.specs.Types.{bool, int, float, bytes}
 use Rattle.vx_value.specs.Views.{value_of}
-use Rattle.vx_array.specs.Kinds.{numbers_in, spans_in, text_row}
+use Rattle.vx_array.specs.Kinds.{floats_in, numbers_in, spans_in, text_row}
 use Rattle.vx_array.specs.Rows.{lanes_rows, lanes_each, structs_from}
 use Rattle.vx_array.specs.Shown.{shown}
-use Rattle.vx_array.proofs.Held.{rows-Same, rows-Values, rows-Bools, rows-Numbers, rows-Texts, rows-Octets, rows-Structs}
+use Rattle.vx_array.proofs.Held.{rows-Same, rows-Values, rows-Bools, rows-Numbers, rows-Floats, rows-Texts, rows-Octets, rows-Structs}
 use Rattle.vx_array.proofs.Masked.{rows_within, part-shown}
 use Rattle.vx_array.proofs.Parts.{part-map, part-replicate}
 use Rattle.vx_array.proofs.Reading.{range_part}
@@ -38,6 +38,18 @@ returns-in_ok-slice-in-Numbers-2 c =
     let xs = c.in_ok-slice-in-Numbers.field-0 in
     let v = c.in_ok-slice-in-Numbers-2.field-0 in
     rows-Numbers xs v ∙ part-shown int c.in-Numbers.validity v (numbers_in c.in-Numbers.values) (numbers_in xs) (lanes_rows c.args.self.now) c.args.from c.args.len (ap lanes_rows c.in-Numbers.is ∙ rows-Numbers c.in-Numbers.values c.in-Numbers.validity) c.in_ok-slice-in-Numbers.ensures c.in_ok-slice-in-Numbers-2.ensures
+
+pub slice-requires-in-Floats : goal.slice-requires-in-Floats
+slice-requires-in-Floats c = (rows_within float c.in-Floats.validity (floats_in c.in-Floats.values) (lanes_rows c.args.self.now) (c.args.from + c.args.len) (ap lanes_rows c.in-Floats.is ∙ rows-Floats c.in-Floats.values c.in-Floats.validity) c.requires).0
+
+pub slice-requires-in-Floats-2 : goal.slice-requires-in-Floats-2
+slice-requires-in-Floats-2 c = (rows_within float c.in-Floats.validity (floats_in c.in-Floats.values) (lanes_rows c.args.self.now) (c.args.from + c.args.len) (ap lanes_rows c.in-Floats.is ∙ rows-Floats c.in-Floats.values c.in-Floats.validity) c.requires).1
+
+pub returns-in_ok-slice-in-Floats-2 : goal.returns-in_ok-slice-in-Floats-2
+returns-in_ok-slice-in-Floats-2 c =
+    let xs = c.in_ok-slice-in-Floats.field-0 in
+    let v = c.in_ok-slice-in-Floats-2.field-0 in
+    rows-Floats xs v ∙ part-shown float c.in-Floats.validity v (floats_in c.in-Floats.values) (floats_in xs) (lanes_rows c.args.self.now) c.args.from c.args.len (ap lanes_rows c.in-Floats.is ∙ rows-Floats c.in-Floats.values c.in-Floats.validity) c.in_ok-slice-in-Floats.ensures c.in_ok-slice-in-Floats-2.ensures
 
 pub slice-requires-in-Texts : goal.slice-requires-in-Texts
 slice-requires-in-Texts c = (rows_within text_row c.in-Texts.validity (spans_in c.in-Texts.values) (lanes_rows c.args.self.now) (c.args.from + c.args.len) (ap lanes_rows c.in-Texts.is ∙ rows-Texts c.in-Texts.values c.in-Texts.validity) c.requires).0

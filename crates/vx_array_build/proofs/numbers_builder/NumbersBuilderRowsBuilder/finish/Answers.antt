@@ -1,18 +1,10 @@
 use Rattle.std.proofs.Common.{◌∙◌, ap, map}
-use Rattle.std.proofs.lemmas.List.{length-map}
 use Rattle.vx_value.specs.Types.{int}
+use Rattle.vx_array.specs.Shown.{shown}
 use Rattle.vx_array.proofs.Held.{rows-Numbers}
-use Rattle.vx_array.specs.Shown.{masked, shown}
-use Rattle.vx_array_build.specs.Rowed.{flags}
 use Rattle.vx_array_build.proofs.numbers_builder.NumbersBuilderRowsBuilder.finish.Goals as goal
 
 pub returns : goal.returns
 returns g c =
-    let number = g.T.Number.number in
-    let xs = c.self.inside.numbers.items in
-    let v = c.in_ok-validity.validity in
-    let valid = c.self.inside.valid in
-    let ds = map int (map number xs) in
-    let are = c.numbers-numbers.ensures ∙ ap (map number) c.in_ok-new.ensures in
-    rows-Numbers c.numbers-numbers.result v ∙ ap (λ l. shown v (map int l)) are ∙ c.in_ok-validity.ensures ds
-    ∙ ap (λ n. masked (flags n valid) ds) (length-map (map number xs) int ∙ length-map xs number) ∙ c.self.view_is
+    let v = c.in_ok-numbers.validity in
+    rows-Numbers c.numbers.result v ∙ ap (λ l. shown v (map int l)) c.numbers.ensures ∙ c.in_ok-numbers.ensures

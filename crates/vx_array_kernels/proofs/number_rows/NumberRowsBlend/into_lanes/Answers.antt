@@ -1,4 +1,4 @@
-use Rattle.std.proofs.Common.{rules, ◌≡◌, ◌∙◌, ap, length, map, sym}
+use Rattle.std.proofs.Common.{rules, ◌≡◌, ◌∙◌, ap, length, map}
 use Rattle.std.proofs.lemmas.List.{length-map}
 use Rattle.vx_value.specs.Types.{int}
 use Rattle.vx_array.proofs.Held.{rows-Numbers}

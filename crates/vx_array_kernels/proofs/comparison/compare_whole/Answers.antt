@@ -8,7 +8,7 @@ use Rattle.vx_array_kernels.specs.Asked.{asked, compared_rows}
 use Rattle.vx_array_kernels.specs.Truths.{both_rows}
 use Rattle.vx_array.proofs.Found.{found_map}
 use Rattle.vx_array_kernels.proofs.Told.{both_before, both_with, turned_round}
-use Rattle.vx_array_kernels.proofs.comparison.compare.Goals as goal
+use Rattle.vx_array_kernels.proofs.comparison.compare_whole.Goals as goal
 
 pub returns-in_default-Same : goal.returns-in_default-Same
 returns-in_default-Same c =
