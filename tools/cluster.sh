@@ -6,40 +6,55 @@
 # what the plan leaves is true, by vx_eval, and they have to be the source's. What isn't installed is installed from
 # Debian's packages, or a line says that it can't be. All servers are on loopback or on sockets in a temporary folder,
 # and are stopped at the end. Ends with a line `cluster: N expressions, M failed`, and with status 1 if any failed.
-# `rt ci` or `rt run vx_sql_rows` has built the program.
+# `rt ci` has built the programs, or `rt run vx_sql_rows` and `rt run vx`.
 set -eu
 cd "$(dirname "$0")/.."
 seed=${1:-1}
 count=${2:-300}
+# Of how many plans the statement that `vx plan` prints is run, too.
+few=$((count < 20 ? count : 20))
 program=$PWD/crates/vx_sql_rows/out/vx_sql_rows
+vx=$PWD/crates/vx/out/vx
 expressions=0
 failed=0
 . tools/servers.sh
 
 # Writes the plans for an engine: the table's statements, without and with its rows, and the rest.
 write_plans() {
-    "$program" plans table "$1" "$seed" "$count" >"$room/table"
+    "$program" plans "$1" "$seed" "$count" >"$room/plans"
+    take_apart "$room/plans"
     sed '/^INSERT INTO /,$d' "$room/table" >"$room/columns"
     sed -n '/^INSERT INTO /,$p' "$room/table" | sed 's/^INSERT INTO t /INSERT INTO spread /' >"$room/rows"
-    "$program" plans script "$1" "$seed" "$count" >"$room/script"
-    "$program" plans left "$1" "$seed" "$count" | sort >"$room/left"
-    "$program" plans answers "$1" "$seed" "$count" | sort >"$room/answers"
+    for part in left answers; do
+        sort -o "$room/$part" "$room/$part"
+    done
 }
 
-# Keeps of the rows that an engine gave those of which what is left is true, and compares them with the source's.
-# Each row begins with its number, and the word `plan` stands before the rows of each expression.
+# Writes the statements that `vx plan` prints for the first of the plans, so many of them, each behind its number.
+# PostgreSQL has to print each row on one line.
+write_by_vx() {
+    [ "$1" = postgres ] && before='COPY (' behind=') TO STDOUT;' || before='' behind=';'
+    for number in $(seq 0 $(($2 - 1))); do
+        awk -v number="$number" '/^plan [0-9]+$/ { plan = $2; next } plan == number' "$room/sources" >"$room/source"
+        "$vx" plan "@$room/source" --schema "@$room/schema" --sql "$1" --table spread >"$room/page"
+        printf "SELECT 'plan %s';\n%s%s%s\n" "$number" "$before" "$(sed '/^residual: /,$d' "$room/page")" "$behind"
+    done
+}
+
+# Keeps of the rows that an engine gave of so many plans those of which what is left is true, and compares them with
+# the source's. Each row begins with its number, and the word `plan` stands before the rows of each expression.
 compare() {
     awk '/^plan [0-9]+$/ { plan = $2; next } /^[0-9]+(\t|$)/ { print plan, $1 + 0 }' "$room/said" | sort >"$room/given"
     comm -12 "$room/given" "$room/left" >"$room/kept"
-    diff "$room/answers" "$room/kept" >"$room/differ" || true
+    awk -v count="$2" '$1 < count' "$room/answers" | diff - "$room/kept" >"$room/differ" || true
     wrong=$(awk '/^[<>]/ { print $2 }' "$room/differ" | sort -u | wc -l)
     run=$(grep '^plan [0-9]*$' "$room/said" | sort -u | wc -l)
     given=$(wc -l <"$room/given")
     echo "cluster: $1: $run expressions over two servers, $given rows came back, $(wc -l <"$room/kept") kept, $wrong expressions differ"
     [ "$wrong" -eq 0 ] || head -n 10 "$room/differ"
-    [ "$run" -eq "$count" ] || {
-        echo "cluster: $1: $((count - run)) statements weren't run"
-        wrong=$((wrong + count - run))
+    [ "$run" -eq "$2" ] || {
+        echo "cluster: $1: $(($2 - run)) statements weren't run"
+        wrong=$((wrong + $2 - run))
     }
     [ ! -s "$room/errors" ] || {
         echo "cluster: $1 says:"
@@ -76,7 +91,7 @@ run_clickhouse() {
     ask_clickhouse "$asker" --multiquery <"$room/rows"
     echo "cluster: clickhouse: $(ask_clickhouse "$first" --query='SELECT count() FROM t') rows on one server, $(ask_clickhouse "$second" --query='SELECT count() FROM t') on the other"
     ask_clickhouse "$asker" --multiquery --ignore-error <"$room/script" >"$room/said" 2>"$room/errors" || true
-    compare clickhouse
+    compare clickhouse "$count"
     sleep 2
     # A view over a shard's own table shows how a server writes the statement by itself.
     awk '/^SELECT .plan [0-9]+.;$/ { plan = $3 + 0; print "CREATE VIEW plan" plan " AS"; next }
@@ -87,6 +102,9 @@ run_clickhouse() {
         ask_clickhouse "$port" --query="SELECT query FROM system.query_log WHERE type = 1 AND is_initial_query = 0 AND query LIKE 'SELECT%FROM default.t%'" >"$room/came"
         handed_on clickhouse "$room/came" "the server at port $port"
     done
+    write_by_vx clickhouse "$few" >"$room/by_vx"
+    ask_clickhouse "$asker" --multiquery --ignore-error <"$room/by_vx" >"$room/said" 2>"$room/errors" || true
+    compare "clickhouse, by vx plan" "$few"
     stop_clickhouse
 }
 
@@ -125,17 +143,21 @@ run_postgres() {
     ask_postgres third -f "$room/rows"
     echo "cluster: postgres: $(ask_postgres one -c 'SELECT count(*) FROM t') rows on one server, $(ask_postgres two -c 'SELECT count(*) FROM t') on the other"
     ask_postgres third -f "$room/script" >"$room/said" 2>"$room/errors" || true
-    compare postgres
+    compare postgres "$count"
+    cp "$room/said" "$room/explained"
+    write_by_vx postgres "$few" >"$room/by_vx"
+    ask_postgres third -f "$room/by_vx" >"$room/said" 2>"$room/errors" || true
+    compare "postgres, by vx plan" "$few"
     # What is handed on and what is kept has to be what one of the two filters its own table by. COALESCE and fields of
     # structs are kept.
     sed 's/ FROM "spread" WHERE / FROM "t" WHERE /' "$room/script" >"$room/alone"
     ask_postgres one -f "$room/alone" >"$room/wanted"
-    handed_on postgres "$room/said" "each server"
+    handed_on postgres "$room/explained" "each server"
     whole=$(sed -n '1s/^\([0-9]*\) .*/\1/p' "$room/told")
     [ "$whole" -ge $((count / 2)) ] || failed=$((failed + 1))
     # Each of the two takes the whole statement, if it is asked itself.
     ask_postgres two -f "$room/alone" | cat "$room/wanted" - >"$room/said"
-    compare "postgres, each server asked by itself"
+    compare "postgres, each server asked by itself" "$count"
 }
 
 run_clickhouse

@@ -20,10 +20,10 @@ import re
 import sys
 
 # A name, a text, a number, a word, or another character.
-TOKEN = re.compile(r"\"(?:[^\"]|\"\")*\"|E?'(?:[^']|'')*'|\d+\.\d+|\w+|\s+|.", re.DOTALL)
+TOKEN = re.compile(r"\"(?:[^\"]|\"\")*\"|E?'(?:[^']|'')*'|\d+(?:\.\d+)?(?:e[+-]\d+)?|\w+|\s+|.", re.DOTALL)
 # What PostgreSQL puts before a column, and behind a value.
 TABLE = re.compile(r"\b(?:spread_\d|spread|t)\.")
-CAST = re.compile(r"::(?:\w+\.)?\w+(?:\(\d+,\d+\))?")
+CAST = re.compile(r"::(?:\w+\.)?(?:timestamp(?:\(\d\))? with(?:out)? time zone|double precision|\w+(?:\(\d+,\d+\))?)")
 
 
 def clickhouse(wanted, came):
@@ -67,7 +67,7 @@ def plain(condition):
     """The condition without brackets, white space, casts, and quotes of numbers, and with backslashes undoubled."""
     tokens = [token for token in TOKEN.findall(CAST.sub("", condition)) if token not in "()" and not token.isspace()]
     tokens = [token[1:].replace("\\\\", "\\") if token.startswith("E'") else token for token in tokens]
-    return re.sub(r"'(-?\d+(?:\.\d+)?)'", r"\1", " ".join(tokens)).replace("- ", "-")
+    return re.sub(r"'(-?\d+(?:\.\d+)?(?:e[+-]\d+)?)'", r"\1", " ".join(tokens)).replace("- ", "-")
 
 
 def postgres(wanted, said):

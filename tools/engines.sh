@@ -2,7 +2,8 @@
 # Runs expressions by chance in real engines: `tools/engines.sh [SEED [COUNT]]`, from seed 1 on and 5,000 of
 # them unless told otherwise. Over a table of 50 rows with nulls, SQLite, PostgreSQL and ClickHouse have to give the value of
 # the source for each row where it doesn't fault, to fail at sums that have to fail (docs/embed/ENGINES.md), and to keep
-# the rows of which a filter is true. An engine that isn't installed is installed from Debian's packages, and where
+# the rows of which a filter is true. Expressions that have no text in an engine, since it lacks days, decimals and instants or
+# something of them, are counted by reason. An engine that isn't installed is installed from Debian's packages, and where
 # it can't be, or doesn't start, a line says so. PostgreSQL is started on a socket in a temporary folder, ClickHouse at a port
 # on loopback, and both are stopped at the end.
 # Ends with status 1 where an engine answers otherwise, and prints what.
@@ -14,15 +15,21 @@ count=${2:-5000}
 program=$PWD/crates/vx_sql_rows/out/vx_sql_rows
 . tools/servers.sh
 
+# Makes the script for an engine, and what it should print.
+make_cases() {
+    "$program" cases "$1" "$seed" "$count" >"$room/cases"
+    take_apart "$room/cases"
+}
+
 # Compares what an engine printed, and how many statements failed and why, with what it should.
 compare() {
     engine=$1
     cause=$2
-    "$program" answers "$engine" "$seed" "$count" >"$room/wanted"
+    tr '|\t' '  ' <"$room/printed" >"$room/said"
     failed=$(grep -c "$cause" "$room/errors" || true)
     echo "$failed statements fail" >>"$room/said"
     grep -v "$cause" "$room/errors" >"$room/others" || true
-    if ! diff "$room/wanted" "$room/said" >"$room/differ"; then
+    if ! diff "$room/answers" "$room/said" >"$room/differ"; then
         echo "engines: $engine answers otherwise from seed $seed on, as (wanted <, said >):"
         head -n 20 "$room/differ"
         head -n 20 "$room/others"
@@ -33,7 +40,10 @@ compare() {
         head -n 20 "$room/others"
         exit 1
     fi
-    echo "engines: $engine: $count expressions from seed $seed on, $(wc -l <"$room/wanted") answers, all the source's"
+    echo "engines: $engine: $count expressions from seed $seed on, $(wc -l <"$room/answers") answers, all the source's"
+    sort "$room/untold" | uniq -c | while read -r untold reason; do
+        echo "engines: $engine: $untold of them have no text: $reason"
+    done
 }
 
 run_sqlite() {
@@ -41,8 +51,8 @@ run_sqlite() {
         echo "engines: sqlite: isn't installed here, and couldn't be: nothing was compared"
         return 0
     }
-    "$program" script sqlite "$seed" "$count" >"$room/script"
-    sqlite3 -batch :memory: <"$room/script" >"$room/said" 2>"$room/errors" || true
+    make_cases sqlite
+    sqlite3 -batch :memory: <"$room/script" >"$room/printed" 2>"$room/errors" || true
     compare sqlite '^Runtime error near line [0-9]*: malformed JSON$'
 }
 
@@ -51,14 +61,15 @@ run_postgres() {
         echo "engines: postgres: isn't installed here, and couldn't be: nothing was compared"
         return 0
     }
-    # A database that compares texts by the rules of a language shows where a comparison isn't told to go by bytes.
+    # A database that compares texts by the rules of a language shows where a comparison isn't told to go by bytes, and
+    # another order of days and months where a day is told by it.
     make_database data --locale-provider=icu --icu-locale=en-US || make_database data || cat "$room/made"
     start_postgres data || {
         echo "engines: postgres: is installed here, and doesn't start: nothing was compared"
         return 0
     }
-    "$program" script postgres "$seed" "$count" >"$room/script"
-    ask_postgres data -f "$room/script" >"$room/said" 2>"$room/errors" || true
+    make_cases postgres
+    ask_postgres data -c "SET DateStyle = 'SQL, DMY'" -f "$room/script" >"$room/printed" 2>"$room/errors" || true
     compare postgres 'ERROR:  [a-z]* out of range$'
 }
 
@@ -73,8 +84,8 @@ run_clickhouse() {
         tail -n 20 "$room/server/out" || true
         return 0
     }
-    "$program" script clickhouse "$seed" "$count" >"$room/script"
-    ask_clickhouse "$port" --multiquery --ignore-error <"$room/script" >"$room/said" 2>"$room/told" || true
+    make_cases clickhouse
+    ask_clickhouse "$port" --multiquery --ignore-error <"$room/script" >"$room/printed" 2>"$room/told" || true
     # Each error is told by several lines, of which one has the code.
     grep '^Code: ' "$room/told" >"$room/errors" || true
     compare clickhouse '^Code: 395\. .* Value passed to .throwIf. function is non zero'

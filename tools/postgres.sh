@@ -38,11 +38,11 @@ start_postgres() {
     postgres_servers="$postgres_servers $1"
 }
 
-# Asks the server of that name.
+# Asks the server of that name, in a zone where an instant that is told without one is another.
 ask_postgres() {
     asked=$1
     shift
-    PGOPTIONS='-c client_min_messages=warning' "$postgres/psql" -X -q -A -t -h "$room/$asked" -U postgres -d postgres -v VERBOSITY=terse "$@"
+    PGOPTIONS='-c client_min_messages=warning -c timezone=America/St_Johns' "$postgres/psql" -X -q -A -t -h "$room/$asked" -U postgres -d postgres -v VERBOSITY=terse "$@"
 }
 
 stop_postgres() {

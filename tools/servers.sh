@@ -14,6 +14,11 @@ stop() {
 trap stop EXIT
 trap 'exit 1' INT TERM
 
+# Takes apart what `vx_sql_rows` printed: what is behind a line as `-- answers` goes into that file of the folder.
+take_apart() {
+    awk -v room="$room" '/^-- [a-z]+$/ { file = room "/" $2; printf "" >file; next } { print >file }' "$1"
+}
+
 # Installs packages, if that is allowed here.
 add_package() {
     [ "$(id -u)" -eq 0 ] && command -v apt-get >/dev/null || return 1

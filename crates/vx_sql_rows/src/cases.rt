@@ -2,24 +2,25 @@
 ghost use Rattle.vx_tree.specs.Trees.{WellTyped};
 ghost use Rattle.vx_tree.specs.Views.{bound_of};
 
-use crate::kinds::Kind;
-use crate::maker::Maker;
-use crate::rows::{kinds, push_digits, push_shown, push_table, rows, scope};
-use crate::shown::is_shown;
+use crate::found::{Batches, Found};
+use crate::untold::is_untold;
 use std::alloc::{AllocError, Global};
-use vx_eval::apply_bound;
-use vx_places::first_fault_at;
 use vx_sql::{Dialect, to_sql};
+use vx_sql_chance::{
+    Kind, Maker, push_digits, push_shown, push_table, shown, table_kinds, table_rows, table_scope,
+};
 use vx_sql_plan::{NoStatement, SqlPlan, sql_plan};
 use vx_test_support::{Seeds, Unread, bound};
 use vx_tree::BoundExpression;
-use vx_types::{Column, DType, Value, VortexError};
+use vx_types::{DType, Float, Value};
 
 /// The script for an engine, and what it should print.
 #[derive(Drop)]
 pub struct Cases {
     pub script: String,
     pub answers: String,
+    /// Why expressions have no text, a line each.
+    pub untold: String,
     /// How many statements should fail.
     pub failures: u64,
 }
@@ -31,30 +32,38 @@ pub fn make_cases(
     seed: u64,
     count: usize,
 ) -> Result<Cases, Unread> {
-    let kinds = kinds(alloc, dialect)?;
-    let scope = scope(alloc, dialect, "", kinds.as_slice())?;
+    let kinds = table_kinds(alloc, dialect)?;
+    let scope = table_scope(alloc, dialect, "", kinds.as_slice())?;
     let mut seeds = Seeds::new(seed.wrapping_add(1));
-    let rows = rows(alloc, kinds.as_slice(), &mut seeds)?;
-    let mut script = String::new(alloc);
-    if let DType::Struct(fields, _) = &scope {
-        push_table(alloc, dialect, fields, rows.as_slice(), &mut script)?;
-    }
+    let rows = table_rows(alloc, kinds.as_slice(), &mut seeds)?;
     let mut told = Cases {
-        script,
+        script: String::new(alloc),
         answers: String::new(alloc),
+        untold: String::new(alloc),
         failures: 0,
     };
+    if let DType::Struct(fields, _) = &scope {
+        let names = fields.names().as_slice();
+        push_table(
+            alloc,
+            dialect,
+            kinds.as_slice(),
+            names,
+            rows.as_slice(),
+            &mut told.script,
+        )?;
+    }
+    let batches = Batches::new(alloc, &scope, rows)?;
     let mut maker = Maker::new(alloc, dialect, seed);
     for number in 0..count {
-        let kind = maker.kind();
-        let source = maker.expression(kind)?;
+        let (source, kind) = maker.expression()?;
         let case = Case {
             alloc,
             dialect,
             number,
             kind,
         };
-        case.push(source.as_str(), &scope, rows.as_slice(), &mut told)?;
+        case.push(source.as_str(), &scope, &batches, &mut told)?;
     }
     Ok(told)
 }
@@ -70,33 +79,34 @@ struct Case {
 
 impl Case {
     // Its statements, and what they should print: the values of the rows where the source doesn't fault,
-    // nothing of those where its fault is the engine's, and the rows of which a truth value is true.
+    // nothing of those where its fault is the engine's, and the rows of which a truth value is true. An expression
+    // that has no text, though the engine has all that it takes, is told among the answers, which no engine gives.
     fn push(
         self,
         source: &str,
         scope: &DType,
-        rows: &[Value],
+        batches: &Batches,
         told: &mut Cases,
     ) -> Result<(), Unread> {
         let tree = bound(self.alloc, source, scope)?;
         let sql = match to_sql(self.alloc, &tree, self.dialect) {
             Ok(sql) => sql,
+            Err(unsupported) if is_untold(self.dialect, &tree, &unsupported) => {
+                let reason = format_args!("{unsupported}\n");
+                return Ok(push_shown(self.alloc, &reason, &mut told.untold)?);
+            }
             Err(unsupported) => {
-                let line = format!(in self.alloc; "{} {unsupported}: {source}\n", self.number)?;
-                told.answers.push_str(line.as_str())?;
-                return Ok(());
+                let refused = format_args!("{} {unsupported}: {source}\n", self.number);
+                return Ok(push_shown(self.alloc, &refused, &mut told.answers)?);
             }
         };
         let sql = sql.as_str();
-        let mut found = Found::new(self.alloc);
-        for (i, row) in rows.iter().enumerate() {
-            found.add(&tree, scope, i, row)?;
-        }
+        let found = Found::of(self.alloc, &tree, batches)?;
         self.push_values(sql, &found, told)?;
         for row in found.shown.as_slice() {
             self.push_failure(sql, *row, told)?;
         }
-        if matches!(self.kind, Kind::Truth) && found.values.len() == rows.len() {
+        if matches!(self.kind, Kind::Truth) && found.is_whole(batches) {
             self.push_filter(sql, &found, told)?;
             self.push_plan(&tree, scope, &found, told)?;
         }
@@ -108,76 +118,39 @@ impl Case {
             return Ok(());
         }
         let number = self.number;
-        let shown = self.shown();
-        let row = self.row();
+        let shown = shown(self.dialect, self.kind);
         let head = format!(in self.alloc;
-            "SELECT '{number} ' || {row} || ' ' || {shown} FROM (SELECT \"row\", "
+            "SELECT {number}, \"row\", {shown} FROM (SELECT \"row\", {sql} AS v FROM t WHERE \"row\" IN ("
         )?;
         told.script.push_str(head.as_str())?;
-        told.script.push_str(sql)?;
-        told.script.push_str(" AS v FROM t WHERE \"row\" IN (")?;
         for (i, (row, value)) in found.values.iter().enumerate() {
             let separator = if i == 0 { "" } else { ", " };
-            let place = format!(in self.alloc; "{separator}{row}")?;
-            told.script.push_str(place.as_str())?;
-            let line = format!(in self.alloc; "{number} {row} ")?;
-            told.answers.push_str(line.as_str())?;
+            push_shown(
+                self.alloc,
+                &format_args!("{separator}{row}"),
+                &mut told.script,
+            )?;
+            push_shown(
+                self.alloc,
+                &format_args!("{number} {row} "),
+                &mut told.answers,
+            )?;
             self.push_value(value, &mut told.answers)?;
             told.answers.push('\n')?;
         }
         told.script.push_str(")) q ORDER BY \"row\";\n")
     }
 
-    // How the number of a row is shown, and how many rows there are.
-    fn row(self) -> &'static str {
-        match self.dialect {
-            Dialect::ClickHouse => "toString(\"row\")",
-            Dialect::Postgres | Dialect::Sqlite | Dialect::DuckDb | Dialect::Spark => "\"row\"",
-        }
-    }
-
-    fn count(self) -> &'static str {
-        match self.dialect {
-            Dialect::ClickHouse => "toString(count(*))",
-            Dialect::Postgres | Dialect::Sqlite | Dialect::DuckDb | Dialect::Spark => "count(*)",
-        }
-    }
-
-    // How a value is shown.
-    fn shown(self) -> &'static str {
-        match (self.dialect, self.kind) {
-            (Dialect::Postgres, Kind::Text) => {
-                "coalesce(encode(convert_to(v, 'UTF8'), 'hex'), 'null')"
-            }
-            (Dialect::Postgres, Kind::Octets) => "coalesce(encode(v, 'hex'), 'null')",
-            (Dialect::Postgres, Kind::Truth | Kind::Number(_) | Kind::Pair) => {
-                "coalesce(CAST(v AS text), 'null')"
-            }
-            (Dialect::ClickHouse, Kind::Text | Kind::Octets) => "ifNull(lower(hex(v)), 'null')",
-            (Dialect::ClickHouse, Kind::Number(_) | Kind::Pair) => "ifNull(toString(v), 'null')",
-            (Dialect::Sqlite | Dialect::DuckDb | Dialect::Spark, Kind::Text) => {
-                "CASE typeof(v) WHEN 'null' THEN 'null' WHEN 'text' THEN lower(hex(v)) ELSE 'another' END"
-            }
-            (Dialect::Sqlite | Dialect::DuckDb | Dialect::Spark, Kind::Octets) => {
-                "CASE typeof(v) WHEN 'null' THEN 'null' WHEN 'blob' THEN lower(hex(v)) ELSE 'another' END"
-            }
-            (
-                Dialect::Sqlite | Dialect::DuckDb | Dialect::Spark | Dialect::ClickHouse,
-                Kind::Truth,
-            ) => {
-                "CASE WHEN v IS NULL THEN 'null' WHEN v = 1 THEN 'true' WHEN v = 0 THEN 'false' ELSE 'another' END"
-            }
-            (Dialect::Sqlite | Dialect::DuckDb | Dialect::Spark, Kind::Number(_) | Kind::Pair) => {
-                "CASE typeof(v) WHEN 'null' THEN 'null' WHEN 'integer' THEN v ELSE 'another' END"
-            }
-        }
-    }
-
     fn push_value(self, value: &Value, out: &mut String) -> Result<(), AllocError> {
         match value {
             Value::Bool(b) => out.push_str(if *b { "true" } else { "false" }),
             Value::Int(number) => push_shown(self.alloc, number, out),
-            Value::Float(number) => push_shown(self.alloc, number, out),
+            Value::Float(Float::F32(bits)) => {
+                push_shown(self.alloc, &format_args!("{bits:08x}"), out)
+            }
+            Value::Float(Float::F64(bits)) => {
+                push_shown(self.alloc, &format_args!("{bits:016x}"), out)
+            }
             Value::Utf8(text) => push_digits(self.alloc, text.as_str().as_bytes(), out),
             Value::Binary(bytes) => push_digits(self.alloc, bytes.as_slice(), out),
             Value::Null | Value::List(_) | Value::Struct(_) => out.push_str("null"),
@@ -187,15 +160,30 @@ impl Case {
     // A statement over a row that should fail.
     fn push_failure(self, sql: &str, row: usize, told: &mut Cases) -> Result<(), AllocError> {
         let number = self.number;
-        let shown = self.shown();
-        let head = format!(in self.alloc;
-            "SELECT '{number} {row} no fault ' || {shown} FROM (SELECT "
-        )?;
-        told.script.push_str(head.as_str())?;
-        told.script.push_str(sql)?;
-        let end = format!(in self.alloc; " AS v FROM t WHERE \"row\" = {row}) q;\n")?;
-        told.script.push_str(end.as_str())?;
+        let shown = shown(self.dialect, self.kind);
         told.failures = told.failures.saturating_add(1);
+        let statement = format!(in self.alloc;
+            "SELECT {number}, {row}, 'no fault', {shown} FROM (SELECT {sql} AS v FROM t WHERE \"row\" = {row}) q;\n"
+        )?;
+        told.script.push_str(statement.as_str())
+    }
+
+    // The rows of which the truth value is true.
+    fn push_filter(self, sql: &str, found: &Found, told: &mut Cases) -> Result<(), AllocError> {
+        let number = self.number;
+        let statement = format!(in self.alloc;
+            "SELECT {number}, 'kept', \"row\" FROM t WHERE {sql} ORDER BY \"row\";\n"
+        )?;
+        told.script.push_str(statement.as_str())?;
+        for (row, value) in found.values.as_slice() {
+            if is_true(value) {
+                push_shown(
+                    self.alloc,
+                    &format_args!("{number} kept {row}\n"),
+                    &mut told.answers,
+                )?;
+            }
+        }
         Ok(())
     }
 
@@ -222,10 +210,8 @@ impl Case {
             return Ok(());
         };
         let number = self.number;
-        let statement = statement.as_str();
-        let count = self.count();
         let line = format!(in self.alloc;
-            "SELECT '{number} planned ' || {count} FROM ({statement}) q;\n"
+            "SELECT {number}, 'planned', count(*) FROM ({statement}) q;\n"
         )?;
         told.script.push_str(line.as_str())?;
         let kept = found.values.iter().filter(|(_, value)| is_true(value));
@@ -233,81 +219,8 @@ impl Case {
         let line = format!(in self.alloc; "{number} planned {count}\n")?;
         Ok(told.answers.push_str(line.as_str())?)
     }
-
-    // The rows of which the truth value is true.
-    fn push_filter(self, sql: &str, found: &Found, told: &mut Cases) -> Result<(), AllocError> {
-        let number = self.number;
-        let row = self.row();
-        let head = format!(in self.alloc; "SELECT '{number} kept ' || {row} FROM t WHERE ")?;
-        told.script.push_str(head.as_str())?;
-        told.script.push_str(sql)?;
-        told.script.push_str(" ORDER BY \"row\";\n")?;
-        for (row, value) in found.values.as_slice() {
-            if is_true(value) {
-                let line = format!(in self.alloc; "{number} kept {row}\n")?;
-                told.answers.push_str(line.as_str())?;
-            }
-        }
-        Ok(())
-    }
 }
 
 fn is_true(value: &Value) -> bool {
     matches!(value, Value::Bool(true))
-}
-
-// What is found of an expression, row by row.
-#[derive(Drop)]
-struct Found {
-    alloc: Global,
-    // The values of the rows where it doesn't fault.
-    values: Vec<(usize, Value)>,
-    // Rows whose fault the engine has to show.
-    shown: Vec<usize>,
-}
-
-// How many rows of one expression have to fail, at most.
-const FAILURES: usize = 2;
-
-impl Found {
-    fn new(alloc: Global) -> Found {
-        Found {
-            alloc,
-            values: Vec::new(alloc),
-            shown: Vec::new(alloc),
-        }
-    }
-
-    fn add(
-        &mut self,
-        tree: &BoundExpression,
-        scope: &DType,
-        number: usize,
-        row: &Value,
-    ) -> Result<(), Unread>
-        requires { WellTyped (bound_of tree.now) }
-    {
-        let alloc = self.alloc;
-        let mut rows = Vec::new(alloc);
-        rows.push(row.clone()?)?;
-        let batch = Column::try_new(scope.clone()?, rows)?;
-        match apply_bound(alloc, &batch, tree) {
-            Ok(column) => {
-                if let [value] = column.rows() {
-                    self.values.push((number, value.clone()?))?;
-                }
-                Ok(())
-            }
-            Err(VortexError::AddOverflow { .. }) => {
-                if self.shown.len() < FAILURES
-                    && let Some(place) = first_fault_at(alloc, tree, &batch)?
-                    && is_shown(tree, place.path.as_slice())
-                {
-                    self.shown.push(number)?;
-                }
-                Ok(())
-            }
-            Err(_) => Ok(()),
-        }
-    }
 }

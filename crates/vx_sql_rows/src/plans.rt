@@ -3,12 +3,11 @@
 ghost use Rattle.vx_tree.specs.Trees.{WellTyped};
 ghost use Rattle.vx_tree.specs.Views.{bound_of};
 
-use crate::kinds::Kind;
-use crate::maker::Maker;
-use crate::rows::{kinds, push_table, rows, scope};
 use std::alloc::{AllocError, Global};
 use vx_eval::apply_bound;
+use vx_source::TypeText;
 use vx_sql::Dialect;
+use vx_sql_chance::{Maker, push_shown, push_table, table_kinds, table_rows, table_scope};
 use vx_sql_plan::{NoStatement, SqlPlan, sql_plan};
 use vx_test_support::{Seeds, Unread, bound};
 use vx_tree::BoundExpression;
@@ -17,6 +16,10 @@ use vx_types::{Column, DType, Value};
 /// The table that has the rows, the plans' statements over a table `spread`, and what is wanted.
 #[derive(Drop)]
 pub struct Plans {
+    /// The type of the rows, of which the first column is their number.
+    pub schema: String,
+    /// Each expression behind a line of the word `plan` and its number.
+    pub sources: String,
     pub table: String,
     /// Before each statement one that prints the word `plan` and the expression's number. The first
     /// column of each row is its number.
@@ -35,19 +38,29 @@ pub fn make_plans(
     seed: u64,
     count: usize,
 ) -> Result<Plans, Unread> {
-    let kinds = kinds(alloc, dialect)?;
-    let flat = scope(alloc, dialect, "", kinds.as_slice())?;
-    let scope = scope(alloc, dialect, "row=i32, ", kinds.as_slice())?;
+    let kinds = table_kinds(alloc, dialect)?;
+    let flat = table_scope(alloc, dialect, "", kinds.as_slice())?;
+    let scope = table_scope(alloc, dialect, "row=i32?, ", kinds.as_slice())?;
     let mut seeds = Seeds::new(seed.wrapping_add(1));
-    let rows = rows(alloc, kinds.as_slice(), &mut seeds)?;
+    let rows = table_rows(alloc, kinds.as_slice(), &mut seeds)?;
     let mut plans = Plans {
+        schema: format!(in alloc; "{}\n", TypeText(&scope))?,
+        sources: String::new(alloc),
         table: String::new(alloc),
         script: String::new(alloc),
         left: String::new(alloc),
         answers: String::new(alloc),
     };
     if let DType::Struct(fields, _) = &flat {
-        push_table(alloc, dialect, fields, rows.as_slice(), &mut plans.table)?;
+        let names = fields.names().as_slice();
+        push_table(
+            alloc,
+            dialect,
+            kinds.as_slice(),
+            names,
+            rows.as_slice(),
+            &mut plans.table,
+        )?;
     }
     let batch = numbered(alloc, &scope, rows.as_slice())?;
     let mut maker = Maker::new(alloc, dialect, seed);
@@ -56,12 +69,17 @@ pub fn make_plans(
         if made >= count {
             break;
         }
-        let expression = maker.expression(Kind::Truth)?;
+        let expression = maker.truth()?;
         let left = if made % 2 == 0 { "" } else { LEFT };
         let source = format!(in alloc; "({expression}) and (row is not null{left})")?;
         let tree = bound(alloc, source.as_str(), &scope)?;
         if let Ok(column) = apply_bound(alloc, &batch, &tree) {
             push_true(alloc, made, &column, &mut plans.answers)?;
+            push_shown(
+                alloc,
+                &format_args!("plan {made}\n{source}\n"),
+                &mut plans.sources,
+            )?;
             push_plan(alloc, dialect, made, &tree, &batch, &mut plans)?;
             made = made.saturating_add(1);
         }

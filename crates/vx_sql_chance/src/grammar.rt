@@ -1,10 +1,11 @@
 // The grammar of expressions by chance: by what an expression gives, the source text of a node.
 //
-// `T`, `N`, `S`, `B` and `P` stand for expressions that give a truth value, a number, a text, bytes and a pair,
-// `X` for what the node gives, and `M` for a mask; the numbers of a row are of one type, which `#n` names. `#N`,
-// `#S`, `#B`, `#T` and `#X` stand for literals, null among them, `!N`, `!S`, `!B` and `!T` for others than null, and
-// `%S` for a pattern.
-use crate::kinds::Kind;
+// `T`, `N`, `S`, `B`, `E` and `P` stand for expressions that give a truth value, a number, a text, bytes, a measure and a
+// pair, `X` for what the node gives, and `M` for a mask. The numbers of a row are of one type, which `#n` names, and so are
+// its measures, by `#e`. `#N`, `#S`, `#B`, `#E`, `#T` and `#X` stand for literals, null among them, and `!N`, `!S`, `!B`,
+// `!E` and `!T` for others than null.
+use crate::kinds::{Kind, Measure};
+use vx_types::PType;
 
 /// Nodes that give truth values.
 const TRUTHS: [&str; 41] = [
@@ -35,12 +36,12 @@ const TRUTHS: [&str; 41] = [
     "(S < S < S)",
     "(#S <= S < #S)",
     "(B <= B < B)",
-    "(S like %S)",
-    "(S not like %S)",
-    "(S ilike %S)",
-    "(S not ilike %S)",
-    "(S like %S)",
-    "(S ilike %S)",
+    "(S like #S)",
+    "(S not like #S)",
+    "(S ilike #S)",
+    "(S not ilike #S)",
+    "(S like #S)",
+    "(S ilike #S)",
     "(T is null)",
     "(N is null)",
     "(S is not null)",
@@ -65,6 +66,34 @@ const TEXTS: [&str; 2] = ["fill_null(S, !S)", "cast(S as utf8?)"];
 
 const OCTETS: [&str; 2] = ["fill_null(B, !B)", "cast(B as binary?)"];
 
+const MEASURES: [&str; 2] = ["fill_null(E, !E)", "cast(E as #e?)"];
+
+/// Few sums, which have no text.
+const SUMMED: [&str; 7] = [
+    "fill_null(E, !E)",
+    "fill_null(E, !E)",
+    "fill_null(E, !E)",
+    "cast(E as #e?)",
+    "cast(E as #e?)",
+    "cast(E as #e?)",
+    "(E + #E)",
+];
+
+/// Nodes over measures that give truth values.
+const OF_MEASURES: [&str; 11] = [
+    "(E = E)",
+    "(E != #E)",
+    "(E < E)",
+    "(E <= #E)",
+    "(#E > E)",
+    "(E >= E)",
+    "(E between #E and E)",
+    "(E < E < E)",
+    "(#E <= E < #E)",
+    "(E is null)",
+    "(E is not null)",
+];
+
 /// Nodes that give what their children give.
 const OF_ANY_KIND: [&str; 7] = [
     "case when T then X else X end",
@@ -75,9 +104,6 @@ const OF_ANY_KIND: [&str; 7] = [
     "zip(X, #X, T)",
     "mask(X, M)",
 ];
-
-/// Nodes over pairs, in the engine that has them: those that give truth values, numbers and texts.
-const OF_PAIRS: [&str; 4] = ["(P is null)", "(P is not null)", "P.f", "P.g"];
 
 /// Masks, which are never null.
 pub const MASKS: [&str; 5] = [
@@ -96,6 +122,9 @@ impl Kind {
             Kind::Number(_) => &NUMBERS,
             Kind::Text => &TEXTS,
             Kind::Octets => &OCTETS,
+            Kind::Measure(Measure::Price | Measure::Amount | Measure::Single | Measure::Double) =>
+                &SUMMED,
+            Kind::Measure(Measure::Day | Measure::Clock | Measure::Moment) => &MEASURES,
             Kind::Pair => &["mask(P, M)"],
         }
     }
@@ -112,11 +141,19 @@ impl Kind {
         }
     }
 
+    /// Nodes over measures that give such values.
+    pub fn of_measures(self) -> &'static [&'static str] {
+        match self {
+            Kind::Truth => &OF_MEASURES,
+            _ => &[],
+        }
+    }
+
     /// Nodes over pairs that give such values.
     pub fn of_pairs(self) -> &'static [&'static str] {
         match self {
             Kind::Truth => &["(P is null)", "(P is not null)"],
-            Kind::Number(vx_types::PType::I32) => &["P.f"],
+            Kind::Number(PType::I32) => &["P.f"],
             Kind::Text => &["P.g"],
             _ => &[],
         }

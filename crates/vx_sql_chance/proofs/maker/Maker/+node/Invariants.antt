@@ -1,5 +1,5 @@
 use Rattle.std.proofs.Common.{◌+◌, ◌*◌}
-use Rattle.vx_sql_rows.proofs.maker.Maker.+node.Given as goal
+use Rattle.vx_sql_chance.proofs.maker.Maker.+node.Given as goal
 
 abbrev pub decreases-push_node : goal.decreases-push_node
 decreases-push_node l = 2 * l.levels

@@ -1,0 +1,48 @@
+// Which expressions have no text in an engine.
+use vx_fn::{Operator, ScalarFnRef};
+use vx_sql::{Dialect, Reason, Unsupported};
+use vx_sql_chance::has_measures;
+use vx_tree::BoundExpression;
+use vx_types::DType;
+
+/// Whether there is no text since the engine lacks measures, their sums or the order of floats, since a day is far, or since
+/// a float takes more digits than are written.
+pub fn is_untold(dialect: Dialect, tree: &BoundExpression, unsupported: &Unsupported) -> bool {
+    let Unsupported::Node { path, reason } = unsupported else {
+        return false;
+    };
+    let Some(node) = node_at(tree, path.as_slice()) else {
+        return false;
+    };
+    match reason {
+        Reason::UnknownType => is_measure(node) && !has_measures(dialect),
+        Reason::UnknownFunction => is_measure(node) && is_sum(node),
+        Reason::FarDay => is_measure(node),
+        Reason::FloatOrder => is_float(node) || node.children().iter().any(is_float),
+        _ => is_float(node),
+    }
+}
+
+fn node_at<'a>(tree: &'a BoundExpression, path: &[usize]) -> Option<&'a BoundExpression> {
+    let mut node = tree;
+    for index in path {
+        node = node.children().get(*index)?;
+    }
+    Some(node)
+}
+
+// Whether it gives a day, a decimal, an instant or a float.
+fn is_measure(node: &BoundExpression) -> bool {
+    matches!(
+        node.dtype(),
+        DType::Date(_) | DType::Decimal(..) | DType::Timestamp(..) | DType::Float(..)
+    )
+}
+
+fn is_float(node: &BoundExpression) -> bool {
+    matches!(node.dtype(), DType::Float(..))
+}
+
+fn is_sum(node: &BoundExpression) -> bool {
+    matches!(node.as_scalar(), Some(ScalarFnRef::Binary(Operator::Add)))
+}
