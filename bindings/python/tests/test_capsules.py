@@ -217,6 +217,7 @@ class Capsules(unittest.TestCase):
             capsules = None
             self.assertEqual(len(_structs._handed_out), 2)
             plan.scan_arrow(numbers([1, 2]))
+            self.assertEqual(_structs._handed_out, [])
 
     def test_any_batch_comes_out_as_a_column(self):
         rows = [{"x": 1, "s": "a"}, {"x": None, "s": ""}, {"x": 7, "s": "c"}]

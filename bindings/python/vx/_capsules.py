@@ -10,7 +10,7 @@ from ._library import arrow_schema
 from ._structs import ArrowArray, ArrowArrayStream, ArrowSchema, Owned, address_in
 
 
-@dataclasses.dataclass(frozen=True)
+@dataclasses.dataclass
 class Exported:
     """A column, for as long as its owner is there: this releases the structs."""
 
@@ -24,6 +24,10 @@ class Exported:
     def rows(self) -> int:
         """How many rows it says it has."""
         return max(0, ArrowArray.from_address(self.array).length)
+
+    def __del__(self) -> None:
+        # (no exception is under way in here, which would stop a release in Python's code)
+        self.owner = None
 
 
 def is_exporter(batch: Any) -> bool:
@@ -51,11 +55,15 @@ class _Stream:
     """The batches that a library exports, for as long as the capsule is there: this releases the stream."""
 
     def __init__(self, batches: Any) -> None:
-        self._capsule = batches.__arrow_c_stream__()
+        self._capsule: Any = batches.__arrow_c_stream__()
         self._address = address_in(self._capsule, ArrowArrayStream)
         self._struct = ArrowArrayStream.from_address(self._address)
         if not self._struct.release:
             raise ValueError("the stream was read before")
+
+    def __del__(self) -> None:
+        # (as of a column)
+        self._capsule = None
 
     def schema(self) -> Owned:
         """The type of all batches."""

@@ -151,6 +151,7 @@ class Plan:
                     rows += lent.rows
                 else:
                     answer = of_buffers(handle, *lent)
+            del lent
             yield answer
 
     def _batches(self, batch: Rows) -> Iterator[Union[Exported, Tuple[int, List[Lent]]]]:

@@ -4,7 +4,7 @@ from __future__ import annotations
 
 import ctypes
 import sys
-from typing import Any, List, Tuple
+from typing import Any, List
 
 _COUNT, _POINTER = ctypes.c_int64, ctypes.c_void_p
 
@@ -49,20 +49,27 @@ def address_in(capsule: Any, kind: Any) -> int:
     return _pointer(capsule, _NAMES[kind])
 
 
-def _release(struct: Any, release: Any = _RELEASE, address_of: Any = ctypes.addressof) -> None:
-    """Releases the struct, unless it was moved out."""
-    if struct.release:
-        release(struct.release)(address_of(struct))
+class _Struct:
+    """A struct, and the capsule that it was put into, if it was."""
+
+    def __init__(self, struct: Any, capsule: Any = None) -> None:
+        self.struct = struct
+        self.capsule = capsule
+
+    def references(self, count: Any = sys.getrefcount) -> int:
+        """How many there are to the capsule."""
+        return count(self.capsule)
+
+    def release(self, release: Any = _RELEASE, address_of: Any = ctypes.addressof) -> None:
+        """Releases the struct, unless it was moved out."""
+        if self.struct.release:
+            release(self.struct.release)(address_of(self.struct))
 
 
-_handed_out: List[Tuple[Any, Any]] = []
-"""Structs whose owners are gone, each with the capsule that another library still holds."""
-
-
-def _is_held(capsule: Any, references: Any = sys.getrefcount) -> bool:
-    """Whether anyone but the caller of this holds the capsule."""
-    # (the owner or the list, this parameter, and that of the call)
-    return references(capsule) > 3
+_ALONE = _Struct(None, object()).references()
+"""How many references there are to a capsule that no one else holds, which differs from one Python to the next."""
+_handed_out: List[_Struct] = []
+"""Structs whose owners are gone while another library held their capsules."""
 
 
 class Owned:
@@ -73,26 +80,30 @@ class Owned:
     """
 
     def __init__(self, struct: Any) -> None:
-        self.struct = struct
-        self._capsule: Any = None
+        self._it = _Struct(struct)
         for it in _handed_out[:]:
-            if not _is_held(it[1]):
+            if it.references() <= _ALONE:
                 _handed_out.remove(it)
-                _release(it[0])
+                it.release()
+
+    @property
+    def struct(self) -> Any:
+        """The struct."""
+        return self._it.struct
 
     @property
     def address(self) -> int:
         """Where it lies."""
-        return ctypes.addressof(self.struct)
+        return ctypes.addressof(self._it.struct)
 
     def capsule(self) -> Any:
         """The capsule that has it, out of which another library may move it."""
-        self._capsule = _new(self.address, _NAMES[type(self.struct)], None)
-        return self._capsule
+        self._it.capsule = _new(self.address, _NAMES[type(self._it.struct)], None)
+        return self._it.capsule
 
-    def __del__(self, release: Any = _release, is_held: Any = _is_held, handed_out: Any = _handed_out) -> None:
-        # (this may be called when the module is gone)
-        if self._capsule is not None and is_held(self._capsule):
-            handed_out.append((self.struct, self._capsule))
+    # (this may be called when the module is gone)
+    def __del__(self, alone: int = _ALONE, handed_out: Any = _handed_out) -> None:
+        if self._it.capsule is not None and self._it.references() > alone:
+            handed_out.append(self._it)
         else:
-            release(self.struct)
+            self._it.release()
