@@ -7,6 +7,7 @@ pub mod ByteEscapes
 pub mod PatternsSpelled
 pub mod ReadBack
 pub mod ValuesReadBack
+pub mod FloatsReadBack
 pub mod TokensAhead
 pub mod TokensFound
 pub mod Written

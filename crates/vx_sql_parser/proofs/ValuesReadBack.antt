@@ -45,20 +45,23 @@ use Rattle.vx_sql_parser.specs.Laws.{WrittenDaysAreRead, WrittenDecimalsAreRead,
 use Rattle.vx_sql_parser.proofs.ReadBack.{seen, some, backslashing, backslashing_spells, backslashed_read, first_single, made_read, plain_first, numbers_read}
 use Rattle.vx_sql_parser.proofs.TokensFound.{passed_over}
 
--- ---- texts of digits, their signs and capitals
+-- ---- texts of digits, their signs and letters
 
--- each byte lies from the minus to before the backslash, as digits, points, colons and capitals do
-abbrev Clear : List ℕ → Type 0
+-- no quote, no backslash, and no letter from the x on
+abbrev pub ClearByte : ℕ → Type 0
+ClearByte b = ((b == 39) ≡ false) × ((b == 92) ≡ false) × (b < 120)
+
+abbrev pub Clear : List ℕ → Type 0
 Clear [] = Unit {0}
-Clear (b ∷ bs) = (45 ≤ b) × (b < 92) × Clear bs
+Clear (b ∷ bs) = ClearByte b × Clear bs
 
-clear_behind : (xs ys : List ℕ) → Clear xs → Clear ys → Clear (xs ++ ys)
+pub clear_behind : (xs ys : List ℕ) → Clear xs → Clear ys → Clear (xs ++ ys)
 clear_behind [] ys h k = k
-clear_behind (x ∷ xs) ys h k = (h.0, h.1, clear_behind xs ys h.2 k)
+clear_behind (x ∷ xs) ys h k = (h.0, clear_behind xs ys h.1 k)
 
 small : (xs : List ℕ) → Clear xs → All (λ b. b < 128) xs
 small [] h = λ k d l. absurd (omega arith)
-small (x ∷ xs) h = All-cons (λ b. b < 128) x xs (omega (arith, h.1)) (small xs h.2)
+small (x ∷ xs) h = All-cons (λ b. b < 128) x xs (omega (arith, h.0.2)) (small xs h.1)
 
 clear_utf8 : (xs : List ℕ) → Clear xs → IsUtf8 xs
 clear_utf8 xs h = IsUtf8-from_ascii xs (IsAscii-from_all xs (small xs h))
@@ -69,35 +72,39 @@ no_quote b h = grind (arith, nat_tests)
 no_backslash : (b : ℕ) → b < 92 → (b == 92) ≡ false
 no_backslash b h = grind (arith, nat_tests)
 
+-- digits, points, colons and capitals, and the minus
+low : (b : ℕ) → 45 ≤ b → b < 92 → ClearByte b
+low b h k = (no_quote b h, no_backslash b k, omega arith)
+
 clear_doubled : (xs : List ℕ) → Clear xs → doubled 39 xs ≡ xs
 clear_doubled [] h = refl
-clear_doubled (x ∷ xs) h = no (x == 39) (39 ∷ 39 ∷ doubled 39 xs) (x ∷ doubled 39 xs) (no_quote x h.0) ∙ ap (λ ys. x ∷ ys) (clear_doubled xs h.2)
+clear_doubled (x ∷ xs) h = no (x == 39) (39 ∷ 39 ∷ doubled 39 xs) (x ∷ doubled 39 xs) h.0.0 ∙ ap (λ ys. x ∷ ys) (clear_doubled xs h.1)
 
 clear_kept : (xs : List ℕ) → Clear xs → flat_map backslashing xs ≡ xs
 clear_kept [] h = refl
-clear_kept (x ∷ xs) h = ap₂ (λ (ys zs : List ℕ). ys ++ zs) (backslashing_spells.other x (no_quote x h.0) (no_backslash x h.1)) (clear_kept xs h.2)
+clear_kept (x ∷ xs) h = ap₂ (λ (ys zs : List ℕ). ys ++ zs) (backslashing_spells.other x h.0.0 h.0.1) (clear_kept xs h.1)
 
 digits_clear : (ds : List ℕ) → AllDigits 10 ds → Clear ds
 digits_clear [] h = tt
-digits_clear (d ∷ ds) h = let range = digit_from_value d h.0 in (omega arith, omega arith, digits_clear ds h.1)
+digits_clear (d ∷ ds) h = let range = digit_from_value d h.0 in (low d (omega arith) (omega arith), digits_clear ds h.1)
 
 digit_small : (n : ℕ) → 48 + n % 10 < 92
 digit_small n = omega arith
 
 last_clear : (k n : ℕ) → Clear (last_digits k n)
 last_clear zero n = tt
-last_clear (suc k) n = (omega arith, digit_small (n / 10 ^ k), last_clear k n)
+last_clear (suc k) n = (low (48 + n / 10 ^ k % 10) (omega arith) (digit_small (n / 10 ^ k)), last_clear k n)
 
 sign_clear : (i : ℤ) → Clear (sign_text i)
 sign_clear (pos n) = tt
-sign_clear (negsuc n) = (omega arith, omega arith, tt)
+sign_clear (negsuc n) = (low 45 (omega arith) (omega arith), tt)
 
 -- digits behind a point, or none
 pointed : (b : Bool) (k n : ℕ) → Clear (if b then [] else codes "." ++ last_digits k n)
 pointed true k n = tt
-pointed false k n = (omega arith, omega arith, last_clear k n)
+pointed false k n = (low 46 (omega arith) (omega arith), last_clear k n)
 
-decimal_clear : (i : ℤ) (s : ℕ) → unsigned_abs i < 10 ^ 38 → Clear (decimal_text i s)
+pub decimal_clear : (i : ℤ) (s : ℕ) → unsigned_abs i < 10 ^ 38 → Clear (decimal_text i s)
 decimal_clear i s h =
     let whole = unsigned_abs i / 10 ^ s in
     let more = pow-le-pow_right {n = 10} (omega arith) {i = 38} {j = 64} (omega arith) in
@@ -109,7 +116,7 @@ civil_clear : (c : Civil) → Clear (civil_text c)
 civil_clear c =
     let behind : List ℕ = 45 ∷ last_digits 2 c.day in
     clear_behind (last_digits 4 c.year) (45 ∷ (last_digits 2 c.month ++ behind)) (last_clear 4 c.year)
-    (omega arith, omega arith, clear_behind (last_digits 2 c.month) behind (last_clear 2 c.month) (omega arith, omega arith, last_clear 2 c.day))
+    (low 45 (omega arith) (omega arith), clear_behind (last_digits 2 c.month) behind (last_clear 2 c.month) (low 45 (omega arith) (omega arith), last_clear 2 c.day))
 
 day_clear : (i : ℤ) → IsSome (civil_at i) → Clear (day_text i)
 day_clear i = go (civil_at i) where
@@ -124,17 +131,17 @@ time_clear u k =
     let seconds : List ℕ = last_digits 2 (n % 60) ++ part_text u k in
     let minutes : List ℕ = last_digits 2 (n / 60 % 60) ++ 58 ∷ seconds in
     let second = clear_behind (last_digits 2 (n % 60)) (part_text u k) (last_clear 2 (n % 60)) part in
-    let minute = clear_behind (last_digits 2 (n / 60 % 60)) (58 ∷ seconds) (last_clear 2 (n / 60 % 60)) (omega arith, omega arith, second) in
-    clear_behind (last_digits 2 (n / 3600)) (58 ∷ minutes) (last_clear 2 (n / 3600)) (omega arith, omega arith, minute)
+    let minute = clear_behind (last_digits 2 (n / 60 % 60)) (58 ∷ seconds) (last_clear 2 (n / 60 % 60)) (low 58 (omega arith) (omega arith), second) in
+    clear_behind (last_digits 2 (n / 3600)) (58 ∷ minutes) (last_clear 2 (n / 3600)) (low 58 (omega arith) (omega arith), minute)
 
 mark_clear : (z : Option Name) → Clear (zone_mark z)
 mark_clear None = tt
-mark_clear (Some a) = (omega arith, omega arith, tt)
+mark_clear (Some a) = (low 90 (omega arith) (omega arith), tt)
 
 moment_clear : (u : TimeUnit) (z : Option Name) (k : ℕ) (c : Civil) → Clear (moment_text u z k c)
 moment_clear u z k c =
     let time = clear_behind (time_text u k) (zone_mark z) (time_clear u k) (mark_clear z) in
-    clear_behind (civil_text c) (84 ∷ (time_text u k ++ zone_mark z)) (civil_clear c) (omega arith, omega arith, time)
+    clear_behind (civil_text c) (84 ∷ (time_text u k ++ zone_mark z)) (civil_clear c) (low 84 (omega arith) (omega arith), time)
 
 instant_clear : (u : TimeUnit) (z : Option Name) (i : ℤ) → IsSome (civil_at (int_div_euclid i (pos (units_a_day u)))) → Clear (instant_text u z i)
 instant_clear u z i = go (civil_at (int_div_euclid i (pos (units_a_day u)))) where
@@ -290,10 +297,10 @@ instant_kept u z i = go (civil_at (int_div_euclid i (pos (units_a_day u)))) wher
   go None h = cc
 
 -- what stands before the type
-abbrev cast_begin : Dialect → List ℕ → List SqlLexeme → List SqlLexeme
+abbrev pub cast_begin : Dialect → List ℕ → List SqlLexeme → List SqlLexeme
 cast_begin d t xs = Ok (word (folded d (codes "CAST"))) ∷ Ok (sign OpenParen) ∷ Ok (text t) ∷ Ok (word (folded d (codes "AS"))) ∷ xs
 
-begin_goes : (d : Dialect) (t rest : List ℕ) → Clear t → sql_tokens d 0 (codes "CAST('" ++ (t ++ (codes "' AS " ++ rest))) ≡ cast_begin d t (sql_tokens d 0 rest)
+pub begin_goes : (d : Dialect) (t rest : List ℕ) → Clear t → sql_tokens d 0 (codes "CAST('" ++ (t ++ (codes "' AS " ++ rest))) ≡ cast_begin d t (sql_tokens d 0 rest)
 begin_goes d t rest h =
     cast_goes d (39 ∷ (t ++ 39 ∷ (codes " AS " ++ rest)))
     ∙ ap (λ xs. Ok (word (folded d (codes "CAST"))) ∷ Ok (sign OpenParen) ∷ xs) (text_goes d t (codes " AS " ++ rest) h refl ∙ ap (λ xs. Ok (text t) ∷ xs) (as_goes d rest))

@@ -14,7 +14,7 @@ after_onto before t (Ok ts) = ap Ok (sym (append_assoc before (t ++ 32 ∷ []) t
 after_onto before t (Err r) = refl
 
 -- what comes of what a token is written as
-abbrev behind : Dialect → State → List SqlLexeme → Answer → Result (List ℕ) Unread
+abbrev pub behind : Dialect → State → List SqlLexeme → Answer → Result (List ℕ) Unread
 behind d s xs (Ok said) = onto said.text (written d (changed said.change s) said.more xs)
 behind d s xs (Err r) = Err r
 

@@ -1,22 +1,26 @@
--- What is read back of names, texts, numbers, types, days, instants and decimals that are written for an engine.
+-- What is read back of names, texts, numbers, types, days, instants, decimals and floating-point numbers that are written for an engine.
 use Rattle.std.specs.Prelude.{◌≡◌, ◌<◌, ◌≤◌, ◌^◌, ℕ, ℤ, pos, unsigned_abs, true, false, ◌==◌, List, [], ◌++◌, Option, Some, Ok, IsSome, option_map, IsUtf8, codes}
 use Rattle.std.specs.Fmt.{decimal}
 use Rattle.std.specs.Int.{int_div_euclid}
 use Rattle.std.specs.Option.{is_some}
 use Rattle.vx_dtype.specs.Quotes.{between_quotes}
-use Rattle.vx_dtype.specs.Texts.{atomic_text}
+use Rattle.vx_dtype.specs.Texts.{atomic_text, float_type_text}
 use Rattle.vx_dtype.specs.Types.{Name, Atomic, timestamp}
+use Rattle.vx_dtype.specs.declared.float_type.FloatType.{FloatType}
 use Rattle.vx_dtype.specs.declared.timestamp_type.TimeUnit.{TimeUnit}
 use Rattle.vx_dtype.specs.declared.dtype.PType.{PType}
 use Rattle.vx_dtype.specs.declared.dtype.PType.TheVariants.{U8, U16, U32, U64, I8, I16, I32, I64}
 use Rattle.vx_source_types.specs.Characters.{is_word}
 use Rattle.vx_source_types.specs.Tokens.{next, has_point, quoted, number, text}
+use Rattle.vx_floats.specs.declared.float.Float.{Float}
+use Rattle.vx_floats.specs.Floats.{format_of}
+use Rattle.vx_floats.specs.Texts.{float_text, has_value_text}
 use Rattle.vx_sql.specs.declared.dialect.Dialect.{Dialect}
 use Rattle.vx_literals.specs.Days.{civil_at, day_text}
 use Rattle.vx_literals.specs.Decimals.{decimal_text}
 use Rattle.vx_literals.specs.Instants.{instant_text, units_a_day}
-use Rattle.vx_sql.specs.Dialects.{postgres_word, duckdb_word, clickhouse_word, instant_word, instant_type, has_days, has_decimals}
-use Rattle.vx_sql.specs.Literals.{day_sql, decimal_sql, instant_sql}
+use Rattle.vx_sql.specs.Dialects.{postgres_word, duckdb_word, clickhouse_word, float_word, instant_word, instant_type, has_days, has_decimals, has_floats}
+use Rattle.vx_sql.specs.Literals.{day_sql, decimal_sql, float_sql, instant_sql}
 use Rattle.vx_sql.specs.declared.dialect.Dialect.TheVariants.{Postgres, DuckDb, ClickHouse}
 use Rattle.vx_sql.specs.Quotes.{name_quote, name_sql, is_escaped, text_sql}
 use Rattle.vx_sql_parser.specs.SqlTokens.{Taken, taken_at, sql_tokens}
@@ -66,6 +70,10 @@ in_duckdb I64 = codes "i64"
 abbrev pub WrittenTypesAreRead : Type 0
 WrittenTypesAreRead = (p : PType) → (type_named Postgres (postgres_word p) ≡ Some (in_postgres p)) × (type_named DuckDb (duckdb_word p) ≡ Some (in_duckdb p)) × (type_named ClickHouse (clickhouse_word p) ≡ Some (in_duckdb p))
 
+-- so are those for the types of floating-point numbers, in an engine that has ours
+abbrev pub WrittenFloatTypesAreRead : Type 0
+WrittenFloatTypesAreRead = (d : Dialect) (f : FloatType) → has_floats d ≡ true → option_map type_source (type_at d (sql_tokens d 0 (float_word d f)) 0) ≡ Some (float_type_text f)
+
 -- the type of instants that is read of an engine's for them: of those with a zone the one in UTC
 abbrev pub instants_read : TimeUnit → Option Name → Atomic
 instants_read u z = timestamp u (zone (is_some z))
@@ -83,6 +91,11 @@ WrittenDaysAreRead = (d : Dialect) (i : ℤ) → has_days d ≡ true → IsSome 
 abbrev pub WrittenDecimalsAreRead : Type 0
 WrittenDecimalsAreRead = (d : Dialect) (p s : ℕ) (i : ℤ) → has_decimals d ≡ true → p ≤ 38 → s ≤ 38 → unsigned_abs i < 10 ^ 38
     → sql_source d (decimal_sql d p s i) ≡ Ok (text_of (decimals p s) (decimal_text i s) ++ codes " ")
+
+-- so is a floating-point number that has a text of its value
+abbrev pub WrittenFloatsAreRead : Type 0
+WrittenFloatsAreRead = (d : Dialect) (x : Float) → has_floats d ≡ true → has_value_text x ≡ true
+    → sql_source d (float_sql d (format_of x) x) ≡ Ok ((between_quotes 34 (float_text x) ++ (codes "::" ++ float_type_text (format_of x))) ++ codes " ")
 
 -- so is an instant
 abbrev pub WrittenInstantsAreRead : Type 0

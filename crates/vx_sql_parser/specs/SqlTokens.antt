@@ -52,9 +52,10 @@ number_lexeme negative m suffix = Err NoNumber
 abbrev pub text_or_name : Dialect → ℕ → List ℕ → SqlLexeme
 text_or_name d b s = if b == 34 then name_lexeme d 34 s else Ok (text s)
 
--- why there is no token
+-- why there is no token: `0x` begins a number
 abbrev pub no_token : Expected → Unread
 no_token expected.Token = NoSign
+no_token expected.HexDigits = NoNumber
 no_token e = Unclosed
 
 -- what a token of source text that begins with b is here

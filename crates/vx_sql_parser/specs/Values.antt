@@ -1,14 +1,14 @@
 -- What names, numbers, bytes, casts and calls of SQL are written as.
-use Rattle.std.specs.Prelude.{ℕ, ◌+◌, ◌-◌, ◌||◌, ◌&&◌, ◌==◌, Bool, true, false, List, [], ◌∷◌, ◌++◌, length, Option, Some, None, Ok, Err, if◌then◌else◌, codes}
+use Rattle.std.specs.Prelude.{ℕ, ◌+◌, ◌-◌, ◌||◌, ◌&&◌, ◌==◌, Bool, true, false, not, nat_eq, List, [], ◌∷◌, ◌++◌, length, Option, Some, None, Ok, Err, if◌then◌else◌, codes}
 use Rattle.std.specs.Fmt.{decimal}
-use Rattle.std.specs.List.{list_all}
+use Rattle.std.specs.List.{list_all, starts_with}
 use Rattle.vx_source_types.specs.Characters.{is_word}
 use Rattle.vx_source_types.specs.Names.{same_word}
 use Rattle.vx_dtype.specs.Quotes.{between_quotes}
 use Rattle.vx_source_types.specs.Tokens.{Lexeme, word, quoted, number, point, text}
 use Rattle.vx_sql.specs.declared.dialect.Dialect.{Dialect}
 use Rattle.vx_sql.specs.declared.dialect.Dialect.TheVariants.{Postgres, Sqlite, DuckDb, Spark, ClickHouse}
-use Rattle.vx_sql.specs.Dialects.{has_days, has_decimals}
+use Rattle.vx_sql.specs.Dialects.{has_days, has_decimals, has_floats}
 use Rattle.vx_sql_parser.specs.declared.reason.Unread.TheVariants.{Number as NoNumber, Hexadecimal, Function, TypedText, Table, CastType as NoType}
 use Rattle.vx_sql_parser.specs.declared.step.Bracket.TheVariants.{Paren, Fill, Lower, Translate}
 use Rattle.vx_sql_parser.specs.declared.step.Change.TheVariants.{Stays, Opens}
@@ -140,23 +140,27 @@ abbrev pub is_bytes_type : Dialect → CastType → Bool
 is_bytes_type DuckDb t = is_called (codes "binary") t
 is_bytes_type d t = false
 
--- whether values of the type stand as texts before it: days, instants and decimals
-abbrev pub has_texts : CastType → Bool
-has_texts (named t) = same_word t (codes "date")
-has_texts double_precision = false
-has_texts (decimals p s) = true
-has_texts (instants u zoned sized) = true
-
--- a text as one of that type
-abbrev pub text_literal : Dialect → List ℕ → CastType → Option (List ℕ)
-text_literal d s t = if is_bytes_type d t then digits_said (escape_digits s) else (if has_texts t then Some (text_of t s) else None)
-
 -- whether values of the type have points: decimals and floating-point numbers
 abbrev pub has_points : CastType → Bool
 has_points (named t) = is_one_of (codes "f32" ∷ codes "f64" ∷ []) t
 has_points double_precision = true
 has_points (decimals p s) = true
 has_points (instants u zoned sized) = false
+
+-- whether a text may be that of a floating-point number: in an engine that has ours, and not by hexadecimal digits, which source text takes for bits
+abbrev pub is_float_text : Dialect → List ℕ → Bool
+is_float_text d s = has_floats d && not (starts_with nat_eq s (codes "0x"))
+
+-- whether the text is written before the type: that of a day, an instant, a decimal or a floating-point number
+abbrev pub is_typed : Dialect → List ℕ → CastType → Bool
+is_typed d s (named t) = same_word t (codes "date") || (has_points (named t) && is_float_text d s)
+is_typed d s double_precision = is_float_text d s
+is_typed d s (decimals p k) = true
+is_typed d s (instants u zoned sized) = true
+
+-- a text as one of that type
+abbrev pub text_literal : Dialect → List ℕ → CastType → Option (List ℕ)
+text_literal d s t = if is_bytes_type d t then digits_said (escape_digits s) else (if is_typed d s t then Some (text_of t s) else None)
 
 -- a number with a point or an exponent as one of that type
 abbrev pub point_literal : List ℕ → CastType → Option (List ℕ)

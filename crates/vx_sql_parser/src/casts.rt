@@ -19,7 +19,7 @@ use crate::reason::Unread;
 use crate::step::{Bracket, Change, Step, Stop, says, stepped};
 use std::alloc::{AllocError, Global};
 use vx_source_types::Token;
-use vx_sql::Dialect;
+use vx_sql::{Dialect, has_floats};
 
 // A cast whose bracket is the first token: a literal, or the bracket around what is cast.
 pub(crate) fn cast(alloc: Global, dialect: Dialect, tokens: &[Lexed]) -> Result<Step, Stop>
@@ -159,7 +159,7 @@ fn text_literal(
         let digits = escape_digits(alloc, text.as_bytes())?;
         return as_source(alloc, digits);
     }
-    if has_texts(dtype) {
+    if is_typed(dialect, text, dtype) {
         return Ok(Some(text_of(alloc, text, dtype)?));
     }
     Ok(None)
@@ -206,15 +206,25 @@ fn is_bytes_type(dialect: Dialect, dtype: CastType) -> bool
     }
 }
 
-// Whether values of the type stand as texts before it: days, instants and decimals.
-fn has_texts(dtype: CastType) -> bool
-    ensures { result ≡ values.has_texts (cast_type_of dtype) }
+// Whether the text is written before the type: that of a day, an instant, a decimal or a floating-point number.
+fn is_typed(dialect: Dialect, text: &str, dtype: CastType) -> bool
+    ensures { result ≡ values.is_typed dialect text.now (cast_type_of dtype) }
 {
     match dtype {
-        CastType::Named(_) => dtype.is_called("date"),
-        CastType::DoublePrecision => false,
+        CastType::Named(name) => {
+            is(name, "date") || (has_points(dtype) && is_float_text(dialect, text))
+        }
+        CastType::DoublePrecision => is_float_text(dialect, text),
         CastType::Decimals(..) | CastType::Instants { .. } => true,
     }
+}
+
+// Whether the text may be that of a floating-point number: in an engine that has ours, and not by hexadecimal digits, which
+// source text takes for bits.
+fn is_float_text(dialect: Dialect, text: &str) -> bool
+    ensures { result ≡ values.is_float_text dialect text.now }
+{
+    has_floats(dialect) && !text.as_bytes().starts_with(b"0x")
 }
 
 // The type behind `as`.

@@ -182,11 +182,13 @@ fn number_of(negative: bool, magnitude: Option<u64>, suffix: FieldName) -> Resul
     }
 }
 
+// Why there is no token: `0x` begins a number.
 fn no_token(expected: Expected) -> Unread
     ensures { result ≡ no_token expected }
 {
     match expected {
         Expected::Token => Unread::Sign,
+        Expected::HexDigits => Unread::Number,
         _ => Unread::Unclosed,
     }
 }

@@ -1,5 +1,5 @@
 // Laws of reading, as functions without a body.
-ghost use Rattle.vx_sql_parser.specs.Laws.{WrittenDaysAreRead, WrittenDecimalsAreRead, WrittenInstantTypesAreRead, WrittenInstantsAreRead, WrittenNamesAreRead, WrittenNumbersAreRead, WrittenTextsAreRead, WrittenTypesAreRead};
+ghost use Rattle.vx_sql_parser.specs.Laws.{WrittenDaysAreRead, WrittenDecimalsAreRead, WrittenFloatTypesAreRead, WrittenFloatsAreRead, WrittenInstantTypesAreRead, WrittenInstantsAreRead, WrittenNamesAreRead, WrittenNumbersAreRead, WrittenTextsAreRead, WrittenTypesAreRead};
 
 /// Each name that `vx_sql` writes for an engine is read back, whatever is in it, and what stands behind
 /// it is no part of it.
@@ -18,9 +18,10 @@ pub fn written_numbers_are_read()
 {}
 
 /// The words of PostgreSQL, DuckDB and ClickHouse for the types of numbers are read as the narrowest type that has their numbers,
-/// and those of each engine for instants as the same type, a zone as UTC.
+/// and those of each engine for floating-point numbers and instants as the same type, a zone as UTC.
 pub fn written_types_are_read()
     ensures numbers { WrittenTypesAreRead }
+    ensures floats { WrittenFloatTypesAreRead }
     ensures instants { WrittenInstantTypesAreRead }
 {}
 
@@ -33,6 +34,12 @@ pub fn written_days_are_read()
 /// that has decimals.
 pub fn written_decimals_are_read()
     ensures { WrittenDecimalsAreRead }
+{}
+
+/// Each floating-point number that `vx_sql` writes is read as its text before its type, which is that number, in each engine
+/// that has ours.
+pub fn written_floats_are_read()
+    ensures { WrittenFloatsAreRead }
 {}
 
 /// Each instant of the years 1 to 9999 that `vx_sql` writes is read as its text before its type, a zone as UTC, in each engine

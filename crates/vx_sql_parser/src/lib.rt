@@ -32,9 +32,9 @@ mod whole;
 
 pub use error::SqlError;
 pub use laws::{
-    written_days_are_read, written_decimals_are_read, written_instants_are_read,
-    written_names_are_read, written_numbers_are_read, written_texts_are_read,
-    written_types_are_read,
+    written_days_are_read, written_decimals_are_read, written_floats_are_read,
+    written_instants_are_read, written_names_are_read, written_numbers_are_read,
+    written_texts_are_read, written_types_are_read,
 };
 pub use reason::Unread;
 pub use source::SqlSource;
