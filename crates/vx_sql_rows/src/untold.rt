@@ -18,7 +18,7 @@ pub fn is_untold(dialect: Dialect, tree: &BoundExpression, unsupported: &Unsuppo
         Reason::UnknownType => is_measure(node) && !has_measures(dialect),
         Reason::UnknownFunction => is_measure(node) && is_sum(node),
         Reason::FarDay => is_measure(node),
-        Reason::FloatOrder => is_float(node) || node.children().iter().any(is_float),
+        Reason::FloatOrder => is_float(node) || node.children().iter().any(|child| is_float(child)),
         _ => is_float(node),
     }
 }
