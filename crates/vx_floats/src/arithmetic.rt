@@ -1,0 +1,71 @@
+// What is computed of two numbers, and floating-point arithmetic.
+ghost use Rattle.std.specs.Prelude.{◌≡◌, from_bits, to_bits};
+ghost use Rattle.std.specs.Float.{binary32, binary64};
+ghost use Rattle.vx_floats.specs.Floats.{float_result, ieee_result};
+
+use crate::Float;
+use std::num::{
+    f32_from_bits_with_nan, f32_to_bits_with_nan, f64_from_bits_with_nan, f64_to_bits_with_nan,
+};
+
+/// What is computed of two numbers.
+#[derive(Clone, Copy, Debug)]
+pub enum Arithmetic {
+    /// The left one plus the right one.
+    Sum,
+    /// The left one minus the right one.
+    Difference,
+    /// The left one times the right one.
+    Product,
+    /// The left one by the right one: of whole numbers cut to a whole number.
+    Quotient,
+    /// What is left of the left one when it is divided by the right one, with the left one's sign.
+    Remainder,
+}
+
+impl Float {
+    /// The arithmetic of IEEE 754 on both, to nearest and to even at a tie. The remainder is that of
+    /// the quotient cut to a whole number. None where the formats differ.
+    pub fn compute(self, arithmetic: Arithmetic, other: Float) -> Option<Float>
+        ensures { result ≡ float_result arithmetic self other }
+    {
+        match self {
+            Float::F32(a) => match other {
+                Float::F32(b) => Some(Float::F32(result_of_32(arithmetic, a, b))),
+                Float::F64(_) => None,
+            },
+            Float::F64(a) => match other {
+                Float::F32(_) => None,
+                Float::F64(b) => Some(Float::F64(result_of_64(arithmetic, a, b))),
+            },
+        }
+    }
+}
+
+// The bits of the result.
+fn result_of_32(arithmetic: Arithmetic, a: u32, b: u32) -> u32
+    ensures { result ≡ to_bits binary32 (ieee_result arithmetic binary32 (from_bits binary32 a) (from_bits binary32 b)) }
+{
+    let (x, y) = (f32_from_bits_with_nan(a), f32_from_bits_with_nan(b));
+    f32_to_bits_with_nan(match arithmetic {
+        Arithmetic::Sum => x + y,
+        Arithmetic::Difference => x - y,
+        Arithmetic::Product => x * y,
+        Arithmetic::Quotient => x / y,
+        Arithmetic::Remainder => x % y,
+    })
+}
+
+// The bits of the result.
+fn result_of_64(arithmetic: Arithmetic, a: u64, b: u64) -> u64
+    ensures { result ≡ to_bits binary64 (ieee_result arithmetic binary64 (from_bits binary64 a) (from_bits binary64 b)) }
+{
+    let (x, y) = (f64_from_bits_with_nan(a), f64_from_bits_with_nan(b));
+    f64_to_bits_with_nan(match arithmetic {
+        Arithmetic::Sum => x + y,
+        Arithmetic::Difference => x - y,
+        Arithmetic::Product => x * y,
+        Arithmetic::Quotient => x / y,
+        Arithmetic::Remainder => x % y,
+    })
+}
