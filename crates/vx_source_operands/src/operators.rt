@@ -46,6 +46,10 @@ pub fn comparison(sign: Sign) -> Option<Operator>
         | Sign::Question
         | Sign::Tilde
         | Sign::Plus
+        | Sign::Minus
+        | Sign::Star
+        | Sign::Slash
+        | Sign::Percent
         | Sign::Dollar => None,
     }
 }
@@ -55,6 +59,10 @@ fn operator_at(found: &Found) -> Option<Operator>
 {
     match &found.token {
         Token::Sign(Sign::Plus) => Some(Operator::Add),
+        Token::Sign(Sign::Minus) => Some(Operator::Sub),
+        Token::Sign(Sign::Star) => Some(Operator::Mul),
+        Token::Sign(Sign::Slash) => Some(Operator::Div),
+        Token::Sign(Sign::Percent) => Some(Operator::Rem),
         Token::Sign(sign) => comparison(*sign),
         Token::Word(name) => {
             if is_word(name, "and") {

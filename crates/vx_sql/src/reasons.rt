@@ -205,12 +205,16 @@ fn number_reason(dtype: &DType, number: i128) -> Option<Reason>
     }
 }
 
-// A sum is of whole numbers: the engines' sums of decimals have more digits than ours.
+// A sum is of whole numbers: the engines' sums of decimals have more digits than ours. Other
+// arithmetic isn't written.
 fn operation_reason(dtype: &DType, operator: Operator) -> Option<Reason>
     ensures { result ≡ operation_reason (type_of dtype.now) (operation_of operator) }
 {
     match operator {
         Operator::Add if !is_whole(dtype) => Some(Reason::UnknownFunction),
+        Operator::Sub | Operator::Mul | Operator::Div | Operator::Rem => {
+            Some(Reason::UnknownFunction)
+        }
         _ => None,
     }
 }
