@@ -14,4 +14,5 @@ mod Conjoined
 pub mod Masked
 mod Branches
 pub mod Cuts
+mod Divisors
 mod Leaves

@@ -1,5 +1,5 @@
 -- A tree that faults nowhere on a batch faults nowhere on rows of it.
-use Rattle.std.proofs.Common.{◌≡◌, ◌∙◌, ◌+◌, ◌≤◌, ◌∷◌, ◌++◌, List, [], Bool, true, false, Option, None, Ok, map, length, refl, sym, ap, subst, inl, inr, arith}
+use Rattle.std.proofs.Common.{◌≡◌, ◌∙◌, ℕ, ◌+◌, ◌≤◌, ◌∷◌, ◌++◌, List, [], Bool, true, false, Option, None, Ok, map, length, get_or, refl, sym, ap, subst, inl, inr, arith}
 use Rattle.std.specs.Prelude.{not, cond, position}
 use Rattle.std.specs.Cmp.{bool_cmp_total}
 use Rattle.std.specs.List.{list_any, position_or_len, prefix_len}

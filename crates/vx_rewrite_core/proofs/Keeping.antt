@@ -1,5 +1,5 @@
 -- A tree whose children are replaced by trees that keep them is kept.
-use Rattle.std.proofs.Common.{◌≡◌, List, [], ◌∷◌, refl, sym, ap, map, ◌∙◌}
+use Rattle.std.proofs.Common.{◌≡◌, List, [], ◌∷◌, get_or, refl, sym, ap, map, ◌∙◌}
 use Rattle.std.specs.Prelude.{None, if◌then◌else◌, Ok, not, ◌||◌, position}
 use Rattle.std.specs.List.{list_any}
 use Rattle.std.specs.Option.{option_map}

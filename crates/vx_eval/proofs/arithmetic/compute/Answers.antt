@@ -1,4 +1,4 @@
-use Rattle.std.proofs.Common.{◌∷◌, [], Err, arith, below_more, ◌≡◌, ◌∙◌, ap, get_or, sym, subst}
+use Rattle.std.proofs.Common.{◌∷◌, [], Err, arith, rules, below_more, ◌≡◌, ◌∙◌, ap, get_or, sym, subst}
 use Rattle.vx_value.specs.Types.{null}
 use Rattle.vx_value.specs.Views.{type_of, value_of}
 use Rattle.vx_fn.specs.Functions.{binary, computes}
@@ -17,12 +17,12 @@ returns-in_err-result c = λ ts.
     let is : c.from_residual-in_err-result.result ≡ Err e = search rules in
     subst (Evaluates (binary (computes c.args.arithmetic)) all c.args.count columns) (sym is)
     (refused (binary (computes c.args.arithmetic)) all c.args.count columns e
-    (arithmetic_faults c.args.arithmetic _ ts c.args.count c.loop-i.i _ _ _ _ e (omega arith) c.loop-i.invariant.inside c.row.ensures c.row-2.ensures c.in_err-result.ensures.1 c.in_err-result.ensures.0))
+    (arithmetic_faults c.args.arithmetic _ ts c.args.count c.loop-i.i _ _ _ _ e (omega arith) c.loop-i.invariant.inside c.row.ensures c.row-in-loop-i.ensures c.in_err-result.ensures.1 c.in_err-result.ensures.0))
 
 pub loop-i-preserved : goal.loop-i-preserved
 loop-i-preserved c = record {
-  so_far = row_pushed value_of _ _ _ _ _ c.loop-i.invariant.so_far c.in_ok-push.ensures.items (computed_at _ _ _ _ _ _ c.in_ok-result.ensures.0 c.row.ensures c.row-2.ensures);
-  inside = below_more _ _ c.loop-i.invariant.inside (quiet_at _ _ _ _ _ _ c.in_ok-result.ensures.1 c.row.ensures c.row-2.ensures);
+  so_far = row_pushed value_of _ _ _ _ _ c.loop-i.invariant.so_far c.in_ok-push.ensures.items (computed_at _ _ _ _ _ _ c.in_ok-result.ensures.0 c.row.ensures c.row-in-loop-i.ensures);
+  inside = below_more _ _ c.loop-i.invariant.inside (quiet_at _ _ _ _ _ _ c.in_ok-result.ensures.1 c.row.ensures c.row-in-loop-i.ensures);
 }
 
 pub returns : goal.returns
