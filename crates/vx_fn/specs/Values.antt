@@ -64,7 +64,8 @@ compared c v w = if is_null_datum v || is_null_datum w then null else bool (agre
 abbrev pub bound_comparison : Bool → Comparison
 bound_comparison strict = if strict then less else less_or_equal
 
--- the arithmetic on whole numbers: the quotient is cut towards zero, and the remainder has the sign of the first
+-- the arithmetic on whole numbers: the quotient is cut towards zero, and the remainder has the sign of the first. What both are by zero
+-- no row shows, since it faults
 abbrev pub whole_result : Arithmetic → ℤ → ℤ → ℤ
 whole_result Sum i j = i +ℤ j
 whole_result Difference i j = i -ℤ j
