@@ -79,7 +79,7 @@ static void test_stops(void)
          "error: a number type is needed\n --> expression:1:11\n", VX_EXPRESSION, 10, 15, 1, 11, 0);
     STOP(PLAN, given("y", X, NULL), VX_REFUSED, "error: ", VX_EXPRESSION, 0, 1, 1, 1, 0);
     STOP(EVAL, given("0 + (x + 1)", X, "{\"x\": 1}\n\n{\"x\": 2147483647}\n"), VX_FAULTED,
-         "error: the sum is out of range\n --> expression:1:5\n", VX_EXPRESSION, 4, 11, 1, 5, 3);
+         "error: the result is out of range\n --> expression:1:5\n", VX_EXPRESSION, 4, 11, 1, 5, 3);
     STOP(EVAL, given("x", X, "{\"x\": 1}\n{\"x\": null}"), VX_BAD_DATA, "error: records: line 2",
          VX_RECORDS, 9, 20, 2, 1, 2);
     STOP(EVAL, given("x", X, "{\"x\": 1}\n{\"x\": 2"), VX_BAD_DATA, "error: records: line 2",

@@ -228,7 +228,7 @@ static void test_faults(void)
     vx_plan plan = plan_of("0 + (x + 1)", X);
     Answered a = scanned(&plan, 3, batch, 3);
     EXPECT(a.status == VX_FAULTED);
-    EXPECT(begins(&a, "error: the sum is out of range\n --> expression:1:5\n"));
+    EXPECT(begins(&a, "error: the result is out of range\n --> expression:1:5\n"));
     EXPECT(is_at(&a.answer, (vx_place){VX_EXPRESSION, 4, 11, 1, 5, 2}));
     free(a.text);
     a = scanned(&plan, 1, batch, 3);

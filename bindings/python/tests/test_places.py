@@ -13,7 +13,7 @@ SCHEMA = "{x=i32, y=i32?}"
 MOST = 2**31 - 1
 ROWS = [{"x": 1, "y": 1}, {"x": MOST, "y": None}, {"x": MOST, "y": 3}]
 
-SUM = "the sum is out of range"
+RESULT = "the result is out of range"
 NULL = "the null would be made non-null"
 FILL = "a fill that is null, not one value, or of an unsupported type"
 
@@ -50,16 +50,16 @@ class Faults(unittest.TestCase):
 
     def test_the_first(self):
         for expression, rows, start, end, record, message in [
-            ("x + 1 > 5", ROWS, 0, 5, 2, SUM),
-            ("x + 0 + 1", ROWS, 0, 9, 2, SUM),
-            ("x + 0 > x + 1", ROWS, 8, 13, 2, SUM),
+            ("x + 1 > 5", ROWS, 0, 5, 2, RESULT),
+            ("x + 0 + 1", ROWS, 0, 9, 2, RESULT),
+            ("x + 0 > x + 1", ROWS, 8, 13, 2, RESULT),
             ("is_null(y::i32)", ROWS, 8, 14, 2, NULL),
             ("is_null(coalesce(y, null::i32?))", ROWS, 8, 31, None, FILL),
             ("coalesce($, $)", [], 0, 14, None, FILL),
             # the node's children have columns that are no columns of the rows
-            ("vortex.not(is_null(coalesce(y, 7) + x))", ROWS, 19, 37, 2, SUM),
+            ("vortex.not(is_null(coalesce(y, 7) + x))", ROWS, 19, 37, 2, RESULT),
             # the right child faults in an earlier row
-            ("x + y = y::i32", ROWS, 0, 5, 3, SUM),
+            ("x + y = y::i32", ROWS, 0, 5, 3, RESULT),
         ]:
             with self.subTest(expression):
                 with self.assertRaises(vx.FaultError) as caught:
@@ -69,14 +69,14 @@ class Faults(unittest.TestCase):
     def test_the_first_of_a_scan(self):
         """A plan may leave out a node that faults, where its value isn't asked for."""
         for expression, schema, rows, start, end, record, message in [
-            ("x + 1 > 5", SCHEMA, ROWS, 0, 5, 2, SUM),
-            ("x + 0 + 1", SCHEMA, ROWS, 0, 9, 2, SUM),
-            ("x + 0 > x + 1", SCHEMA, ROWS, 8, 13, 2, SUM),
+            ("x + 1 > 5", SCHEMA, ROWS, 0, 5, 2, RESULT),
+            ("x + 0 + 1", SCHEMA, ROWS, 0, 9, 2, RESULT),
+            ("x + 0 > x + 1", SCHEMA, ROWS, 8, 13, 2, RESULT),
             ("y::i32 > 5", SCHEMA, ROWS, 0, 6, 2, NULL),
             ("is_null(coalesce(y, null::i32?))", SCHEMA, ROWS, 8, 31, None, FILL),
             ("coalesce($, $)", SCHEMA + "?", [], 0, 14, None, FILL),
-            ("vortex.not(coalesce(y, 7) + x > 5)", SCHEMA, ROWS, 11, 29, 2, SUM),
-            ("x + y = y::i32", SCHEMA, ROWS, 0, 5, 3, SUM),
+            ("vortex.not(coalesce(y, 7) + x > 5)", SCHEMA, ROWS, 11, 29, 2, RESULT),
+            ("x + y = y::i32", SCHEMA, ROWS, 0, 5, 3, RESULT),
         ]:
             with self.subTest(expression), vx.Plan(expression, schema) as plan:
                 with self.assertRaises(vx.FaultError) as caught:

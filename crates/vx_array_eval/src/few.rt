@@ -4,7 +4,8 @@ ghost use Rattle.vx_value.specs.Types.{LogicalType, is_null_datum};
 ghost use Rattle.vx_value.specs.Views.{type_of, value_of};
 ghost use Rattle.vx_fn.specs.Faults.{differs};
 ghost use Rattle.vx_fn.specs.Functions as functions;
-ghost use Rattle.vx_fn.specs.Functions.{adds};
+ghost use Rattle.vx_fn.specs.Functions.{computes};
+ghost use Rattle.vx_floats.specs.declared.arithmetic.Arithmetic.TheVariants.{Sum};
 ghost use Rattle.vx_fn.specs.Values as values;
 ghost use Rattle.vx_fn.specs.Views.{function_of, is_strict, operation_of};
 ghost use Rattle.vx_array.specs.Rows.{lanes_each, lanes_rows};
@@ -115,7 +116,7 @@ fn binary(
 
 // The sums of two columns, where there is a fast way and no fault.
 fn sums_of(alloc: Global, node: Node, pair: Pair) -> Result<Option<Lanes>, AllocError>
-    requires sum { function_of node.function.now ≡ functions.binary adds }
+    requires sum { function_of node.function.now ≡ functions.binary (computes Sum) }
     requires two { lanes_each node.below.now ≡ lanes_rows pair.lhs.now ∷ lanes_rows pair.rhs.now ∷ [] }
     requires count { pair.count ≡ node.count }
     requires long { IsLong pair }

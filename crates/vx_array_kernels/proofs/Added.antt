@@ -8,8 +8,9 @@ use Rattle.vx_dtype.specs.declared.dtype.PType.{PType}
 use Rattle.vx_value.specs.Fits.{fits_ptype}
 use Rattle.vx_value.specs.Types.{Datum, null, int, ty, atomic, number}
 use Rattle.vx_fn.specs.Faults.{is_outside}
-use Rattle.vx_fn.specs.Values.{sum_of}
-use Rattle.vx_fn.specs.Functions.{adds}
+use Rattle.vx_fn.specs.Values.{computed}
+use Rattle.vx_floats.specs.declared.arithmetic.Arithmetic.TheVariants.{Sum}
+use Rattle.vx_fn.specs.Functions.{computes}
 use Rattle.vx_fn.proofs.Swaps.{swapped_over_exchanged_operands}
 use Rattle.vx_array.specs.declared.lanes.Lanes as Kind
 use Rattle.vx_array.specs.declared.lanes.Lanes.{Lanes}
@@ -75,22 +76,22 @@ ShowsNumbers n v f rows = (k : ℕ) → k < n → get_or rows k null ≡ (if is_
 
 pub added : (fits : ℤ → Bool) (p : PType) (n : ℕ) (v w all : Validity) (f g : ℕ → ℤ) (xs ys out : List Datum) → ((z : ℤ) → fits z ≡ fits_ptype z p) → ShowsNumbers n v f xs → ShowsNumbers n w g ys → ((k : ℕ) → is_valid all k ≡ (is_valid v k && is_valid w k)) →
     (out ≡ valid_rows n all (λ k. f k +ℤ g k)) × ((k : ℕ) → k < n → is_valid all k ≡ true → fits (f k +ℤ g k) ≡ true) →
-    (out ≡ both_rows n sum_of xs ys) × ((m : Bool) (k : ℕ) → k < n → is_outside (ty (atomic (number p)) m ∷ []) (sum_of (get_or xs k null) (get_or ys k null)) ≡ false)
+    (out ≡ both_rows n (computed Sum) xs ys) × ((m : Bool) (k : ℕ) → k < n → is_outside (ty (atomic (number p)) m ∷ []) (computed Sum (get_or xs k null) (get_or ys k null)) ≡ false)
 added fits p n v w all f g xs ys out same left right each found = (
-  found.0 ∙ sym (rows_as n (λ k. if is_valid all k then int (f k +ℤ g k) else null) (both_rows n sum_of xs ys) (length-map-range_with_len (λ k. sum_of (get_or xs k null) (get_or ys k null)) 0 n)
-      (λ k lt. get_or-map-range_with_len (λ k. sum_of (get_or xs k null) (get_or ys k null)) 0 n k k null lt (omega arith) ∙ at k lt)),
+  found.0 ∙ sym (rows_as n (λ k. if is_valid all k then int (f k +ℤ g k) else null) (both_rows n (computed Sum) xs ys) (length-map-range_with_len (λ k. computed Sum (get_or xs k null) (get_or ys k null)) 0 n)
+      (λ k lt. get_or-map-range_with_len (λ k. computed Sum (get_or xs k null) (get_or ys k null)) 0 n k k null lt (omega arith) ∙ at k lt)),
   (λ m k lt. ap (is_outside (ty (atomic (number p)) m ∷ [])) (at k lt) ∙ inside m k lt (is_valid all k) refl),
 )
   where
-    sums : (a b : Bool) (i j : ℤ) → sum_of (if a then int i else null) (if b then int j else null) ≡ (if a && b then int (i +ℤ j) else null)
+    sums : (a b : Bool) (i j : ℤ) → computed Sum (if a then int i else null) (if b then int j else null) ≡ (if a && b then int (i +ℤ j) else null)
     sums true true i j = refl
     sums true false i j = refl
     sums false true i j = refl
     sums false false i j = refl
 
-    at : (k : ℕ) → k < n → sum_of (get_or xs k null) (get_or ys k null) ≡ (if is_valid all k then int (f k +ℤ g k) else null)
+    at : (k : ℕ) → k < n → computed Sum (get_or xs k null) (get_or ys k null) ≡ (if is_valid all k then int (f k +ℤ g k) else null)
     at k lt =
-        ap (λ d. sum_of d (get_or ys k null)) (left k lt) ∙ ap (sum_of (if is_valid v k then int (f k) else null)) (right k lt)
+        ap (λ d. computed Sum d (get_or ys k null)) (left k lt) ∙ ap (computed Sum (if is_valid v k then int (f k) else null)) (right k lt)
         ∙ sums (is_valid v k) (is_valid w k) (f k) (g k) ∙ ap (λ b. if b then int (f k +ℤ g k) else null) (sym (each k))
 
     inside : (m : Bool) (k : ℕ) → k < n → (b : Bool) → is_valid all k ≡ b → is_outside (ty (atomic (number p)) m ∷ []) (if b then int (f k +ℤ g k) else null) ≡ false
@@ -104,13 +105,13 @@ buffer_shows n v ns xs is there k lt = ap (λ l. get_or l k null) is ∙ get_or-
 -- ---- sums that are found
 
 pub sums_from : {E : Type 0} (fits : ℤ → Bool) (p : PType) (q : Pair) (all : Validity) (f : ℕ → ℤ) (r : Result (Option Lanes) E) → FindsValid fits q.count all f r →
-    ((out : List Datum) → (out ≡ valid_rows q.count all f) × ((k : ℕ) → k < q.count → is_valid all k ≡ true → fits (f k) ≡ true) → (out ≡ pair_rows sum_of q) × NoneOutside p q) → FindsSums p q r
+    ((out : List Datum) → (out ≡ valid_rows q.count all f) × ((k : ℕ) → k < q.count → is_valid all k ≡ true → fits (f k) ≡ true) → (out ≡ pair_rows (computed Sum) q) × NoneOutside p q) → FindsSums p q r
 sums_from fits p q all f (Ok (Some out)) found gives = gives (lanes_rows out) found
 sums_from fits p q all f (Ok None) found gives = tt
 sums_from fits p q all f (Err e) found gives = tt
 
-sum_of-turned : (v w : Datum) → sum_of v w ≡ sum_of w v
-sum_of-turned v w = swapped_over_exchanged_operands adds v w
+sum_of-turned : (v w : Datum) → computed Sum v w ≡ computed Sum w v
+sum_of-turned v w = swapped_over_exchanged_operands (computes Sum) v w
 
 and_all : (b : Bool) → b ≡ (b && true)
 and_all true = refl
@@ -154,10 +155,10 @@ number_before fits p q v ns m i r same left right long found =
     (λ out is. turned (added fits p q.count v All v f (λ _. i) y x out same (buffer_shows q.count v (numbers_in ns) y (ap lanes_rows right ∙ rows-Numbers ns v) (numbers_there v (numbers_in ns) q.count (numbers_held q.rhs.now ns v q.count right long.1)).0)
     (number_shows q.count m i x left long.0) (λ k. and_all (is_valid v k)) is))
   where
-    turned : {out : List Datum} → (out ≡ both_rows q.count sum_of (lanes_rows q.rhs.now) (lanes_rows q.lhs.now)) × ((m : Bool) (k : ℕ) → k < q.count → is_outside (ty (atomic (number p)) m ∷ []) (sum_of (get_or (lanes_rows q.rhs.now) k null) (get_or (lanes_rows q.lhs.now) k null)) ≡ false) →
-        (out ≡ pair_rows sum_of q) × NoneOutside p q
+    turned : {out : List Datum} → (out ≡ both_rows q.count (computed Sum) (lanes_rows q.rhs.now) (lanes_rows q.lhs.now)) × ((m : Bool) (k : ℕ) → k < q.count → is_outside (ty (atomic (number p)) m ∷ []) (computed Sum (get_or (lanes_rows q.rhs.now) k null) (get_or (lanes_rows q.lhs.now) k null)) ≡ false) →
+        (out ≡ pair_rows (computed Sum) q) × NoneOutside p q
     turned h = (
-      h.0 ∙ map_same (λ k. sum_of (get_or (lanes_rows q.rhs.now) k null) (get_or (lanes_rows q.lhs.now) k null)) (λ k. sum_of (get_or (lanes_rows q.lhs.now) k null) (get_or (lanes_rows q.rhs.now) k null)) (range_with_len 0 q.count) (λ k. sum_of-turned (get_or (lanes_rows q.rhs.now) k null) (get_or (lanes_rows q.lhs.now) k null)),
+      h.0 ∙ map_same (λ k. computed Sum (get_or (lanes_rows q.rhs.now) k null) (get_or (lanes_rows q.lhs.now) k null)) (λ k. computed Sum (get_or (lanes_rows q.lhs.now) k null) (get_or (lanes_rows q.rhs.now) k null)) (range_with_len 0 q.count) (λ k. sum_of-turned (get_or (lanes_rows q.rhs.now) k null) (get_or (lanes_rows q.lhs.now) k null)),
       (λ m k lt. ap (is_outside (ty (atomic (number p)) m ∷ [])) (sum_of-turned (get_or (lanes_rows q.lhs.now) k null) (get_or (lanes_rows q.rhs.now) k null)) ∙ h.1 m k lt),
     )
 

@@ -11,13 +11,14 @@ use Rattle.std.proofs.lemmas.List.{length-map, get_or-map, get_or-replicate, len
 use Rattle.std.proofs.lemmas.List.FromFn.{length-map-range_with_len, get_or-map-range_with_len}
 use Rattle.vx_dtype.specs.declared.float_type.FloatType.{FloatType}
 use Rattle.vx_dtype.specs.declared.float_type.FloatType.TheVariants.{F32, F64}
+use Rattle.vx_floats.specs.declared.arithmetic.Arithmetic.TheVariants.{Sum}
 use Rattle.vx_floats.specs.declared.float.Float.{Float}
 use Rattle.vx_floats.specs.declared.float.Float.TheVariants as bits
-use Rattle.vx_floats.specs.Floats.{float_sum}
+use Rattle.vx_floats.specs.Floats.{float_result}
 use Rattle.vx_value.specs.Types.{Datum, null, bool, int, float, utf8, bytes, list_of, struct_of, ty, atomic, floating}
 use Rattle.vx_fn.specs.Faults.{is_outside}
-use Rattle.vx_fn.specs.Functions.{adds}
-use Rattle.vx_fn.specs.Values.{sum_of}
+use Rattle.vx_fn.specs.Functions.{computes}
+use Rattle.vx_fn.specs.Values.{computed}
 use Rattle.vx_fn.proofs.Swaps.{swapped_over_exchanged_operands}
 use Rattle.vx_array_loops.specs.WordBits.{each_row}
 use Rattle.vx_array.specs.declared.floats.Floats.{Floats}
@@ -38,7 +39,7 @@ use Rattle.vx_array_kernels.proofs.Beside.{all_counted, both_have}
 use Rattle.vx_array_kernels.proofs.Told.{rows_as}
 
 -- the sum of two floating-point numbers, by their bits
-raw_sum : (f : FloatType) (a b : ℕ) → float_sum (float_of f a) (raw_float f b) ≡ Some (float_of f (bits_sum f a b))
+raw_sum : (f : FloatType) (a b : ℕ) → float_result Sum (float_of f a) (raw_float f b) ≡ Some (float_of f (bits_sum f a b))
 raw_sum F32 a b =
     ap (λ z. Some (bits.F32 (to_bits binary32 (add binary32 z (from_bits binary32 b))))) (of_bits-to_bits binary32 _ (of_bits-fits binary32 a))
     ∙ ap (λ z. Some (bits.F32 (to_bits binary32 z))) (sym (of_bits-to_bits binary32 _ (add-fits binary32 (from_bits binary32 a) (from_bits binary32 b))))
@@ -47,7 +48,7 @@ raw_sum F64 a b =
     ∙ ap (λ z. Some (bits.F64 (to_bits binary64 z))) (sym (of_bits-to_bits binary64 _ (add-fits binary64 (from_bits binary64 a) (from_bits binary64 b))))
 
 -- the number that bits stand for is summed as that of just these bits
-seen_sum : (f : FloatType) (x : Float) (b : ℕ) → float_sum x (float_of f b) ≡ float_sum x (raw_float f b)
+seen_sum : (f : FloatType) (x : Float) (b : ℕ) → float_result Sum x (float_of f b) ≡ float_result Sum x (raw_float f b)
 seen_sum F32 (bits.F32 a) b = ap (λ z. Some (bits.F32 (to_bits binary32 (add binary32 (from_bits binary32 a) z)))) (of_bits-to_bits binary32 _ (of_bits-fits binary32 b))
 seen_sum F32 (bits.F64 a) b = refl
 seen_sum F64 (bits.F32 a) b = refl
@@ -58,15 +59,15 @@ abbrev pub ShowsFloats : ℕ → Validity → (ℕ → Float) → List Datum →
 ShowsFloats n v f rows = (k : ℕ) → k < n → get_or rows k null ≡ (if is_valid v k then float (f k) else null)
 
 -- sums of two columns, row by row
-pub floats_summed : (f : FloatType) (n : ℕ) (v w all : Validity) (a b : ℕ → ℕ) (h : ℕ → Float) (xs ys out : List Datum) → ShowsFloats n v (λ k. float_of f (a k)) xs → ShowsFloats n w h ys → ((k : ℕ) → float_sum (float_of f (a k)) (h k) ≡ Some (float_of f (bits_sum f (a k) (b k)))) →
-    ((k : ℕ) → is_valid all k ≡ (is_valid v k && is_valid w k)) → length out ≡ n → ShowsFloats n all (λ k. float_of f (bits_sum f (a k) (b k))) out → out ≡ both_rows n sum_of xs ys
+pub floats_summed : (f : FloatType) (n : ℕ) (v w all : Validity) (a b : ℕ → ℕ) (h : ℕ → Float) (xs ys out : List Datum) → ShowsFloats n v (λ k. float_of f (a k)) xs → ShowsFloats n w h ys → ((k : ℕ) → float_result Sum (float_of f (a k)) (h k) ≡ Some (float_of f (bits_sum f (a k) (b k)))) →
+    ((k : ℕ) → is_valid all k ≡ (is_valid v k && is_valid w k)) → length out ≡ n → ShowsFloats n all (λ k. float_of f (bits_sum f (a k) (b k))) out → out ≡ both_rows n (computed Sum) xs ys
 floats_summed f n v w all a b h xs ys out left right summed each long gives =
-    rows_as n (λ k. sum_of (get_or xs k null) (get_or ys k null)) out long
+    rows_as n (λ k. computed Sum (get_or xs k null) (get_or ys k null)) out long
     (λ k lt. gives k lt ∙ ap (λ t. if t then float (float_of f (bits_sum f (a k) (b k))) else null) (each k) ∙ sums (is_valid v k) (is_valid w k) (float_of f (a k)) (h k) (float_of f (bits_sum f (a k) (b k))) (summed k)
-    ∙ sym (ap (λ d. sum_of d (get_or ys k null)) (left k lt) ∙ ap (sum_of (if is_valid v k then float (float_of f (a k)) else null)) (right k lt)))
+    ∙ sym (ap (λ d. computed Sum d (get_or ys k null)) (left k lt) ∙ ap (computed Sum (if is_valid v k then float (float_of f (a k)) else null)) (right k lt)))
   where
-    sums : (s t : Bool) (x y z : Float) → float_sum x y ≡ Some z → (if s && t then float z else null) ≡ sum_of (if s then float x else null) (if t then float y else null)
-    sums true true x y z e = sym (rw (e, sum_of) refl)
+    sums : (s t : Bool) (x y z : Float) → float_result Sum x y ≡ Some z → (if s && t then float z else null) ≡ computed Sum (if s then float x else null) (if t then float y else null)
+    sums true true x y z e = sym (ap (λ r. elim r [ Some s ↦ float s | None ↦ null ]) e)
     sums true false x y z e = refl
     sums false true x y z e = refl
     sums false false x y z e = refl
@@ -101,12 +102,12 @@ sums_show n all f g ss out rows is are held = (
     many = ap length are ∙ length-map-range_with_len g 0 n
 
 -- no type of floating-point numbers lacks a sum of one
-not_outside : (f : FloatType) (n b : Bool) (x : Float) (e : Datum) → is_outside (ty (atomic (floating f)) n ∷ []) (sum_of (if b then float x else null) e) ≡ false
+not_outside : (f : FloatType) (n b : Bool) (x : Float) (e : Datum) → is_outside (ty (atomic (floating f)) n ∷ []) (computed Sum (if b then float x else null) e) ≡ false
 not_outside f n false x e = refl
 not_outside f n true x null = refl
 not_outside f n true x (bool b) = refl
 not_outside f n true x (int z) = refl
-not_outside f n true x (float y) = go (float_sum x y)
+not_outside f n true x (float y) = go (float_result Sum x y)
   where
     go : (r : Option Float) → is_outside (ty (atomic (floating f)) n ∷ []) (elim r [ Some z ↦ float z | None ↦ null ]) ≡ false
     go (Some z) = refl
@@ -138,18 +139,18 @@ columns_summed q fs gs ss v w all out left right long same sums each count held 
     let y_shows : ShowsFloats n w (λ k. float_of f (b k)) ys = subst (λ g. ShowsFloats n w (λ k. float_of g (b k)) ys) same (buffer_shows n w gs ys y_held y_there.0) in
     let made = sums_show n all f (λ k. bits_sum f (a k) (b k)) ss out (both_have v w all n x_there.1 y_there.1 count) sums.0 sums.1 held in (
       floats_summed f n v w all a b (λ k. float_of f (b k)) xs ys out x_shows y_shows (λ k. seen_sum f (float_of f (a k)) (b k) ∙ raw_sum f (a k) (b k)) each made.0 made.1,
-      λ g m k lt. ap (λ d. is_outside (ty (atomic (floating g)) m ∷ []) (sum_of d (get_or ys k null))) (x_shows k lt) ∙ not_outside g m (is_valid v k) (float_of f (a k)) (get_or ys k null),
+      λ g m k lt. ap (λ d. is_outside (ty (atomic (floating g)) m ∷ []) (computed Sum d (get_or ys k null))) (x_shows k lt) ∙ not_outside g m (is_valid v k) (float_of f (a k)) (get_or ys k null),
     )
 
 -- of a column and one number, in either order
 with_number : (n m : ℕ) (fs ss : Floats) (v : Validity) (x : Float) (b : ℕ) (xs ys out : List Datum) → xs ≡ shown v (map float (floats_in fs)) → ys ≡ replicate m (float x) → length xs ≡ n → length ys ≡ n → raw_float (format_in fs) b ≡ x → AreSums n fs (λ _. b) ss → out ≡ shown v (map float (floats_in ss)) →
-    out ≡ both_rows n sum_of xs ys
+    out ≡ both_rows n (computed Sum) xs ys
 with_number n m fs ss v x b xs ys out x_held one long wide raw sums held =
     let f = format_in fs in
     let a = λ (k : ℕ). get_or (bits_in fs) k 0 in
     let there = floats_there v fs xs n x_held long in
     let made = sums_show n v f (λ k. bits_sum f (a k) b) ss out there.1 sums.0 sums.1 held in
-    floats_summed f n v All v a (λ _. b) (λ _. x) xs ys out (buffer_shows n v fs xs x_held there.0) (same_shows n m x ys one wide) (λ k. ap (float_sum (float_of f (a k))) (sym raw) ∙ raw_sum f (a k) b) (λ k. and_all (is_valid v k)) made.0 made.1
+    floats_summed f n v All v a (λ _. b) (λ _. x) xs ys out (buffer_shows n v fs xs x_held there.0) (same_shows n m x ys one wide) (λ k. ap (float_result Sum (float_of f (a k))) (sym raw) ∙ raw_sum f (a k) b) (λ k. and_all (is_valid v k)) made.0 made.1
 
 pub number_summed : (q : Pair) (fs ss : Floats) (v : Validity) (m : ℕ) (x : Float) (b : ℕ) (out : List Datum) → q.lhs.now ≡ Kind.Floats fs v → lanes_rows q.rhs.now ≡ replicate m (float x) → IsLong q → raw_float (format_in fs) b ≡ x → AreSums q.count fs (λ _. b) ss → out ≡ shown v (map float (floats_in ss)) →
     AreFloatSums q out
@@ -160,7 +161,7 @@ number_summed q fs ss v m x b out left right long raw sums held =
     let x_held : xs ≡ shown v (map float (floats_in fs)) = ap lanes_rows left ∙ rows-Floats fs v in
     let x_shows = buffer_shows n v fs xs x_held (floats_there v fs xs n x_held long.0).0 in (
       with_number n m fs ss v x b xs ys out x_held right long.0 long.1 raw sums held,
-      λ g o k lt. ap (λ d. is_outside (ty (atomic (floating g)) o ∷ []) (sum_of d (get_or ys k null))) (x_shows k lt) ∙ not_outside g o (is_valid v k) (float_of (format_in fs) (get_or (bits_in fs) k 0)) (get_or ys k null),
+      λ g o k lt. ap (λ d. is_outside (ty (atomic (floating g)) o ∷ []) (computed Sum d (get_or ys k null))) (x_shows k lt) ∙ not_outside g o (is_valid v k) (float_of (format_in fs) (get_or (bits_in fs) k 0)) (get_or ys k null),
     )
 
 pub number_summed_before : (q : Pair) (fs ss : Floats) (v : Validity) (m : ℕ) (x : Float) (b : ℕ) (out : List Datum) → lanes_rows q.lhs.now ≡ replicate m (float x) → q.rhs.now ≡ Kind.Floats fs v → IsLong q → raw_float (format_in fs) b ≡ x → AreSums q.count fs (λ _. b) ss → out ≡ shown v (map float (floats_in ss)) →
@@ -171,6 +172,6 @@ number_summed_before q fs ss v m x b out left right long raw sums held =
     let ys = lanes_rows q.rhs.now in
     let y_held : ys ≡ shown v (map float (floats_in fs)) = ap lanes_rows right ∙ rows-Floats fs v in (
       with_number n m fs ss v x b ys xs out y_held left long.1 long.0 raw sums held
-          ∙ map_same (λ k. sum_of (get_or ys k null) (get_or xs k null)) (λ k. sum_of (get_or xs k null) (get_or ys k null)) (range_with_len 0 n) (λ k. swapped_over_exchanged_operands adds (get_or ys k null) (get_or xs k null)),
-      λ g o k lt. ap (λ d. is_outside (ty (atomic (floating g)) o ∷ []) (sum_of d (get_or ys k null))) (same_shows n m x xs left long.0 k lt) ∙ not_outside g o true x (get_or ys k null),
+          ∙ map_same (λ k. computed Sum (get_or ys k null) (get_or xs k null)) (λ k. computed Sum (get_or xs k null) (get_or ys k null)) (range_with_len 0 n) (λ k. swapped_over_exchanged_operands (computes Sum) (get_or ys k null) (get_or xs k null)),
+      λ g o k lt. ap (λ d. is_outside (ty (atomic (floating g)) o ∷ []) (computed Sum d (get_or ys k null))) (same_shows n m x xs left long.0 k lt) ∙ not_outside g o true x (get_or ys k null),
     )

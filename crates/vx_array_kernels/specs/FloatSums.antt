@@ -4,11 +4,12 @@ use Rattle.std.specs.Float.{binary32, binary64}
 use Rattle.std.specs.Float.Ieee.{add}
 use Rattle.vx_dtype.specs.declared.float_type.FloatType.{FloatType}
 use Rattle.vx_dtype.specs.declared.float_type.FloatType.TheVariants.{F32, F64}
+use Rattle.vx_floats.specs.declared.arithmetic.Arithmetic.TheVariants.{Sum}
 use Rattle.vx_floats.specs.declared.float.Float.{Float}
 use Rattle.vx_floats.specs.declared.float.Float.TheVariants as bits
 use Rattle.vx_value.specs.Types.{Datum, null, ty, atomic, floating}
 use Rattle.vx_fn.specs.Faults.{is_outside}
-use Rattle.vx_fn.specs.Values.{sum_of}
+use Rattle.vx_fn.specs.Values.{computed}
 use Rattle.vx_array_loops.specs.WordBits.{each_row}
 use Rattle.vx_array.specs.declared.floats.Floats.{Floats}
 use Rattle.vx_array.specs.declared.lanes.Lanes.{Lanes}
@@ -34,7 +35,7 @@ AreSums n xs g sums = (format_in sums ≡ format_in xs) × (bits_in sums ≡ eac
 -- the rows are the sums, and no type of floating-point numbers lacks one of them
 abbrev pub AreFloatSums : Pair → List Datum → Type 0
 AreFloatSums q rows =
-    (rows ≡ pair_rows sum_of q) × ((f : FloatType) (n : Bool) (k : ℕ) → k < q.count → is_outside (ty (atomic (floating f)) n ∷ []) (sum_of (get_or (lanes_rows q.lhs.now) k null) (get_or (lanes_rows q.rhs.now) k null)) ≡ false)
+    (rows ≡ pair_rows (computed Sum) q) × ((f : FloatType) (n : Bool) (k : ℕ) → k < q.count → is_outside (ty (atomic (floating f)) n ∷ []) (computed Sum (get_or (lanes_rows q.lhs.now) k null) (get_or (lanes_rows q.rhs.now) k null)) ≡ false)
 
 -- lanes that are found hold them
 abbrev pub FindsFloatSums : {E : Type 0} → Pair → Result (Option Lanes) E → Type 0

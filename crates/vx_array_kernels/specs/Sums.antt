@@ -3,7 +3,8 @@ use Rattle.std.specs.Prelude.{◌≡◌, ◌<◌, ℕ, ℤ, Bool, true, false, L
 use Rattle.vx_dtype.specs.declared.dtype.PType.{PType}
 use Rattle.vx_value.specs.Types.{Datum, null, int, ty, atomic, number}
 use Rattle.vx_fn.specs.Faults.{is_outside}
-use Rattle.vx_fn.specs.Values.{sum_of}
+use Rattle.vx_fn.specs.Values.{computed}
+use Rattle.vx_floats.specs.declared.arithmetic.Arithmetic.TheVariants.{Sum}
 use Rattle.vx_array_loops.specs.WordBits.{each_row}
 use Rattle.vx_array.specs.declared.lanes.Lanes.{Lanes}
 use Rattle.vx_array.specs.declared.validity.Validity.{Validity}
@@ -26,8 +27,8 @@ FindsValid fits n v f r = IfOk r (λ found. IfSome found (λ out. (lanes_rows ou
 
 -- the number type holds the sum of each row
 abbrev pub NoneOutside : PType → Pair → Type 0
-NoneOutside p q = (n : Bool) (k : ℕ) → k < q.count → is_outside (ty (atomic (number p)) n ∷ []) (sum_of (get_or (lanes_rows q.lhs.now) k null) (get_or (lanes_rows q.rhs.now) k null)) ≡ false
+NoneOutside p q = (n : Bool) (k : ℕ) → k < q.count → is_outside (ty (atomic (number p)) n ∷ []) (computed Sum (get_or (lanes_rows q.lhs.now) k null) (get_or (lanes_rows q.rhs.now) k null)) ≡ false
 
 -- lanes that are found hold the sums, and the number type holds each
 abbrev pub FindsSums : {E : Type 0} → PType → Pair → Result (Option Lanes) E → Type 0
-FindsSums p q r = IfOk r (λ found. IfSome found (λ out. (lanes_rows out ≡ pair_rows sum_of q) × NoneOutside p q))
+FindsSums p q r = IfOk r (λ found. IfSome found (λ out. (lanes_rows out ≡ pair_rows (computed Sum) q) × NoneOutside p q))

@@ -35,7 +35,13 @@ pub fn comparison_of(operator: Operator) -> Option<Comparison>
         Operator::Gte => Some(Comparison::GreaterOrEqual),
         Operator::Lt => Some(Comparison::Less),
         Operator::Lte => Some(Comparison::LessOrEqual),
-        Operator::And | Operator::Or | Operator::Add => None,
+        Operator::And
+        | Operator::Or
+        | Operator::Add
+        | Operator::Sub
+        | Operator::Mul
+        | Operator::Div
+        | Operator::Rem => None,
     }
 }
 

@@ -27,7 +27,7 @@ use vx_types::VortexResult;
 ///
 /// Refuses with the source's first refusal (2 to 11, but 3) exactly where it has no type over the
 /// batch's, and with `OutOfMemory` (1); a source that faults on the batch may be refused with
-/// `AddOverflow` (13), `CastNull` (14) or `BadFill` (15), too.
+/// `AddOverflow` (13), `CastNull` (14), `BadFill` (15) or `DivisionByZero` (20), too.
 pub fn run_query_array(
     alloc: Global,
     source: &Expression,

@@ -14,7 +14,8 @@ pub use crate::choices::{case_when, case_when_no_else, mask, nested_case_when, z
 pub use crate::fields::{get_item, pack, select, select_exclude};
 pub use crate::nulls::{fill_null, is_not_null, is_null};
 pub use crate::operators::{
-    and, between, binary, checked_add, eq, gt, gt_eq, lt, lt_eq, not, not_eq, or,
+    and, between, binary, checked_add, checked_div, checked_mul, checked_rem, checked_sub, eq, gt,
+    gt_eq, lt, lt_eq, not, not_eq, or,
 };
 pub use crate::texts::{ilike, like, not_ilike, not_like};
 pub use crate::values::cast;

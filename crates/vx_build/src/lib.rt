@@ -20,6 +20,9 @@ pub use fields::{col, get_item, is_root, pack, root, select, select_exclude};
 pub use laws::{collects_join_in_order, collects_take_truths_alone};
 pub use nulls::{fill_null, is_not_null, is_null};
 pub use operands::case_operands;
-pub use operators::{and, between, binary, checked_add, eq, gt, gt_eq, lt, lt_eq, not, not_eq, or};
+pub use operators::{
+    and, between, binary, checked_add, checked_div, checked_mul, checked_rem, checked_sub, eq, gt,
+    gt_eq, lt, lt_eq, not, not_eq, or,
+};
 pub use texts::{ilike, like, not_ilike, not_like};
 pub use values::{cast, lit};

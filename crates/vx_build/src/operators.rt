@@ -1,6 +1,7 @@
-// Constructors of comparisons, logic and sums.
+// Constructors of comparisons, logic and arithmetic.
 ghost use Rattle.std.specs.Prelude.{[], ◌∷◌};
-ghost use Rattle.vx_fn.specs.Functions.{binary, logical_not, between, compares, equal, not_equal, greater, greater_or_equal, less, less_or_equal, and_also, or_else, adds};
+ghost use Rattle.vx_fn.specs.Functions.{binary, logical_not, between, compares, equal, not_equal, greater, greater_or_equal, less, less_or_equal, and_also, or_else, computes};
+ghost use Rattle.vx_floats.specs.declared.arithmetic.Arithmetic.TheVariants.{Sum, Difference, Product, Quotient, Remainder};
 ghost use Rattle.vx_fn.specs.Views.{operation_of, is_strict};
 
 use crate::node::{node_of_one, node_of_three, node_of_two};
@@ -82,9 +83,43 @@ pub fn and<T: TreeNode>(alloc: Global, lhs: T, rhs: T) -> VortexResult<T>
 /// The sum of the operands. Over sources it refuses with `OutOfMemory` (1) alone, over bound trees
 /// as the node does: `NotNumeric` (9), `BaseTypesDiffer` (6).
 pub fn checked_add<T: TreeNode>(alloc: Global, lhs: T, rhs: T) -> VortexResult<T>
-    ensures { T.gives (binary adds) (lhs ∷ rhs ∷ []) result }
+    ensures { T.gives (binary (computes Sum)) (lhs ∷ rhs ∷ []) result }
 {
     binary(alloc, Operator::Add, lhs, rhs)
+}
+
+/// The left operand minus the right one. Over sources it refuses with `OutOfMemory` (1) alone, over
+/// bound trees as the node does: `NotNumeric` (9), `BaseTypesDiffer` (6).
+pub fn checked_sub<T: TreeNode>(alloc: Global, lhs: T, rhs: T) -> VortexResult<T>
+    ensures { T.gives (binary (computes Difference)) (lhs ∷ rhs ∷ []) result }
+{
+    binary(alloc, Operator::Sub, lhs, rhs)
+}
+
+/// The product of the operands. Over sources it refuses with `OutOfMemory` (1) alone, over bound
+/// trees as the node does: `NotNumeric` (9), also of decimals, `BaseTypesDiffer` (6).
+pub fn checked_mul<T: TreeNode>(alloc: Global, lhs: T, rhs: T) -> VortexResult<T>
+    ensures { T.gives (binary (computes Product)) (lhs ∷ rhs ∷ []) result }
+{
+    binary(alloc, Operator::Mul, lhs, rhs)
+}
+
+/// The left operand by the right one, of whole numbers cut towards zero. Over sources it refuses
+/// with `OutOfMemory` (1) alone, over bound trees as the node does: `NotNumeric` (9), also of
+/// decimals, `BaseTypesDiffer` (6).
+pub fn checked_div<T: TreeNode>(alloc: Global, lhs: T, rhs: T) -> VortexResult<T>
+    ensures { T.gives (binary (computes Quotient)) (lhs ∷ rhs ∷ []) result }
+{
+    binary(alloc, Operator::Div, lhs, rhs)
+}
+
+/// The remainder of the left operand by the right one, with the left one's sign. Over sources it
+/// refuses with `OutOfMemory` (1) alone, over bound trees as the node does: `NotNumeric` (9), also
+/// of decimals and floats, `BaseTypesDiffer` (6).
+pub fn checked_rem<T: TreeNode>(alloc: Global, lhs: T, rhs: T) -> VortexResult<T>
+    ensures { T.gives (binary (computes Remainder)) (lhs ∷ rhs ∷ []) result }
+{
+    binary(alloc, Operator::Rem, lhs, rhs)
 }
 
 /// The other truth value, null for null. Over sources it refuses with `OutOfMemory` (1) alone, over

@@ -17,6 +17,10 @@ pub fn joins_conjuncts(operator: Operator) -> bool
         | Operator::Gte
         | Operator::Lt
         | Operator::Lte
-        | Operator::Add => false,
+        | Operator::Add
+        | Operator::Sub
+        | Operator::Mul
+        | Operator::Div
+        | Operator::Rem => false,
     }
 }

@@ -94,8 +94,9 @@ struct FaultText<'a>(&'a VortexError);
 impl Display for FaultText<'_> {
     fn fmt<W: Write>(&self, f: &mut Formatter<W>) -> fmt::Result {
         match self.0 {
-            VortexError::AddOverflow { .. } => f.write_str("the sum is out of range"),
+            VortexError::AddOverflow { .. } => f.write_str("the result is out of range"),
             VortexError::CastNull { .. } => f.write_str("the null would be made non-null"),
+            VortexError::DivisionByZero { .. } => f.write_str("the divisor is zero"),
             refusal => refusal.fmt(f),
         }
     }
@@ -109,6 +110,9 @@ fn help_for(refusal: &VortexError) -> Option<Help<'static>> {
         )),
         VortexError::CastNull { .. } => Some(Help::Said(
             "fill the nulls before, as in coalesce(x, 0)",
+        )),
+        VortexError::DivisionByZero { .. } => Some(Help::Said(
+            "make the zeros null before, as in x / mask(y, y != 0)",
         )),
         _ => None,
     }

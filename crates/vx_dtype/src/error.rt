@@ -33,7 +33,8 @@ pub enum VortexError {
     /// 8: a list or a struct is compared.
     #[error("lists and structs aren't compared")]
     NotComparable,
-    /// 9: another type than a whole number's is added.
+    /// 9: a type that the arithmetic doesn't take: none of numbers, or one of decimals where they
+    /// are multiplied or divided.
     #[error("a number type is needed")]
     NotNumeric,
     /// 10: another type than a text's is matched with a pattern.
@@ -45,8 +46,8 @@ pub enum VortexError {
     /// 12: the column isn't of the type that the expression is bound to.
     #[error("the column isn't of the scope's type")]
     ScopeMismatch,
-    /// 13: the sum in that row lies outside the range of its type.
-    #[error("the sum of row {row} is out of range")]
+    /// 13: the sum, difference, product or quotient in that row lies outside the range of its type.
+    #[error("the result of row {row} is out of range")]
     AddOverflow { row: usize },
     /// 14: the null in that row would be cast to a type without null.
     #[error("the null of row {row} would be made non-null")]
@@ -66,6 +67,9 @@ pub enum VortexError {
     /// 19: columns that stand side by side have different lengths.
     #[error("columns of unequal length")]
     LengthMismatch,
+    /// 20: the whole number in that row would be divided by zero.
+    #[error("the divisor of row {row} is zero")]
+    DivisionByZero { row: usize },
 }
 
 impl From<AllocError> for VortexError {

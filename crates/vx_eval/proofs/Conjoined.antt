@@ -1,12 +1,12 @@
 -- Comparisons joined by And.
-use Rattle.std.proofs.Common.{◌≡◌, ℕ, ◌+◌, ◌<◌, ◌≤◌, List, [], ◌∷◌, ◌++◌, map, length, get_or, drop, refl, sym, ap, ◌∙◌, arith, zero, suc, IsTrue, Option, Some, None, Bool, true, false}
+use Rattle.std.proofs.Common.{◌≡◌, ℕ, ◌+◌, ◌<◌, ◌≤◌, List, [], ◌∷◌, ◌++◌, map, length, get_or, drop, refl, sym, ap, ◌∙◌, arith, IsTrue, Option, Some, None, Bool, true, false}
 use Rattle.std.specs.Prelude.{if◌then◌else◌, ◌||◌}
 use Rattle.std.proofs.lemmas.List.{drop_more, drop_all, get_or-map, map-append, length-map, append-nil}
 use Rattle.std.proofs.lemmas.List.FromFn.{length-map-range_with_len, get_or-map-range_with_len}
 use Rattle.vx_value.specs.Types.{Datum, null, bool, is_null_datum}
 use Rattle.vx_fn.specs.Functions.{Operation, compares}
 use Rattle.vx_fn.specs.Values.{kleene_and, binary_value, agrees, order}
-use Rattle.vx_eval.specs.Columns.{each_row, row_at, truth_datum, truth_of}
+use Rattle.vx_eval.specs.Columns.{each_row, row_at, truth_datum}
 use Rattle.vx_eval.specs.Items.{AllLong, HaveRow, all_of, conjoined, compared_items, is_comparison, item_at}
 use Rattle.vx_eval.proofs.Filled.{each_same, all_rows, told_at}
 use Rattle.vx_fn.proofs.Kleene.{and_assoc}

@@ -1,5 +1,5 @@
 -- Batches that are cut in two, under trees in which no node looks across rows: what evaluation by blocks rests on.
-use Rattle.std.proofs.Common.{◌≡◌, ◌∙◌, ◌≤◌, ◌<◌, ℕ, zero, suc, ◌+◌, ◌-◌, List, [], ◌∷◌, ◌++◌, append_assoc, map, length, refl, sym, ap, arith, Option, Some, None, Ok, Bool, true, false, take, drop}
+use Rattle.std.proofs.Common.{◌≡◌, ◌∙◌, ◌≤◌, ◌<◌, ℕ, zero, suc, ◌+◌, ◌-◌, List, [], ◌∷◌, ◌++◌, append_assoc, map, length, get_or, refl, sym, ap, arith, Option, Some, None, Ok, Bool, true, false, take, drop}
 use Rattle.std.specs.Prelude.{not, cond, position}
 use Rattle.std.specs.List.{between, list_any, position_or_len, prefix_len}
 use Rattle.std.specs.Option.{option_or, option_map}
@@ -8,10 +8,10 @@ use Rattle.std.proofs.lemmas.List.{map-append, take_all, take-append-drop, take-
 use Rattle.std.proofs.lemmas.List.Edits.{split_between}
 use Rattle.std.proofs.lemmas.List.Folds.{list_any-append}
 use Rattle.vx_dtype.specs.declared.error.VortexError.{VortexError}
-use Rattle.vx_dtype.specs.declared.error.VortexError.TheVariants.{AddOverflow, CastNull, BadFill}
+use Rattle.vx_dtype.specs.declared.error.VortexError.TheVariants.{CastNull, BadFill}
 use Rattle.vx_value.specs.Types.{LogicalType, Datum, is_null_datum}
-use Rattle.vx_fn.specs.Faults.{node_fault, overflows, misfits, fill_of, is_bad_fill, when}
-use Rattle.vx_fn.specs.Functions.{Function, binary, adds, cast, fill_null, literal}
+use Rattle.vx_fn.specs.Faults.{node_fault, has_fault, row_fault, misfits, fill_of, is_bad_fill, when}
+use Rattle.vx_fn.specs.Functions.{Function, binary, computes, cast, fill_null, literal}
 use Rattle.vx_fn.proofs.Fills.{none_differ}
 use Rattle.vx_tree.specs.declared.bound.BoundExpression.{BoundExpression}
 use Rattle.vx_tree.specs.Views.{bounds_of}
@@ -63,8 +63,8 @@ none_mapped : {A B : Type 0} (g : A → B) (o : Option A) → option_map g o ≡
 none_mapped g None e = refl
 none_mapped g (Some a) e = cc
 
-no_row_faults : {A : Type 0} (p : A → Bool) (fault : ℕ → VortexError) (xs ys : List A) → option_map fault (position p xs) ≡ None → option_map fault (position p ys) ≡ None → option_map fault (position p (xs ++ ys)) ≡ None
-no_row_faults p fault xs ys e f = ap (option_map fault) (no_position p xs ys (none_mapped fault _ e) (none_mapped fault _ f))
+no_row_faults : {A : Type 0} (p : A → Bool) (fault : List A → ℕ → VortexError) (xs ys : List A) → option_map (fault xs) (position p xs) ≡ None → option_map (fault ys) (position p ys) ≡ None → option_map (fault (xs ++ ys)) (position p (xs ++ ys)) ≡ None
+no_row_faults p fault xs ys e f = ap (option_map (fault (xs ++ ys))) (no_position p xs ys (none_mapped (fault xs) _ e) (none_mapped (fault ys) _ f))
 
 -- ---- a fill by a literal
 
@@ -94,8 +94,9 @@ never e = cc
 
 node_cut : (f : Function) (bs : BoundTrees) (ts : List LogicalType) (xs ys : List Datum) → is_across f bs ≡ false →
     node_fault f ts (map (values bs) xs) ≡ None → node_fault f ts (map (values bs) ys) ≡ None → node_fault f ts (map (values bs) (xs ++ ys)) ≡ None
-node_cut (binary adds) bs ts xs ys apart e f = ap (node_fault (binary adds) ts) (map-append (values bs) xs ys) ∙ no_row_faults (overflows ts) AddOverflow (map (values bs) xs) (map (values bs) ys) e f
-node_cut (cast t) bs ts xs ys apart e f = ap (node_fault (cast t) ts) (map-append (values bs) xs ys) ∙ no_row_faults (misfits t) CastNull (map (values bs) xs) (map (values bs) ys) e f
+node_cut (binary (computes a)) bs ts xs ys apart e f =
+    ap (node_fault (binary (computes a)) ts) (map-append (values bs) xs ys) ∙ no_row_faults (has_fault a ts) (λ rows n. row_fault a (get_or rows n []) n) (map (values bs) xs) (map (values bs) ys) e f
+node_cut (cast t) bs ts xs ys apart e f = ap (node_fault (cast t) ts) (map-append (values bs) xs ys) ∙ no_row_faults (misfits t) (λ rows. CastNull) (map (values bs) xs) (map (values bs) ys) e f
 node_cut fill_null (bound a (bound (node u (literal w v) cs) no_bound)) ts xs ys apart e f =
     let filled = filled_by a u w v cs in
     let quiet = λ (batch : List Datum) (h : when (is_bad_fill ts (map fill_of (map (values (bound a (bound (node u (literal w v) cs) no_bound))) batch))) BadFill ≡ None). ap (is_bad_fill ts) (sym (filled batch)) ∙ when_none _ BadFill h in

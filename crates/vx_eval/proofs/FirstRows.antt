@@ -1,16 +1,19 @@
 -- Tests over all rows of a column, and the first row at which one passes.
-use Rattle.std.proofs.Common.{◌≡◌, ℕ, ◌<◌, List, [], ◌∷◌, map, length, get_or, refl, sym, ap, ◌∙◌, arith, Some, None, Bool, true, false, zero, suc, IsTrue}
+use Rattle.std.proofs.Common.{◌≡◌, ℕ, ◌<◌, List, [], ◌∷◌, map, length, get_or, refl, sym, ap, ◌∙◌, arith, Some, None, Bool, true, false, zero, suc}
 use Rattle.std.specs.Prelude.{not, ◌||◌, position}
 use Rattle.std.proofs.lemmas.List.{length-replicate}
 use Rattle.std.proofs.Math.ListN.{replicate}
 use Rattle.std.specs.List.{list_any, range_with_len}
 use Rattle.std.specs.Option.{option_map}
-use Rattle.vx_dtype.specs.declared.error.VortexError.TheVariants.{AddOverflow, BadFill}
+use Rattle.std.proofs.lemmas.List.FromFn.{get_or-map-range_with_len}
+use Rattle.vx_dtype.specs.declared.error.VortexError.{VortexError}
+use Rattle.vx_dtype.specs.declared.error.VortexError.TheVariants.{BadFill}
+use Rattle.vx_floats.specs.declared.arithmetic.Arithmetic.{Arithmetic}
 use Rattle.vx_value.specs.Fits.{fits}
 use Rattle.vx_value.specs.Types.{LogicalType, ty, atomic, number, floating, decimals, Datum, null, int, is_null_datum}
-use Rattle.vx_fn.specs.Faults.{node_fault, is_outside, overflows, misfits, fill_of, is_bad_fill, some_differ, differs, when}
-use Rattle.vx_fn.specs.Functions.{binary, adds, fill_null}
-use Rattle.vx_fn.specs.Values.{sum_of}
+use Rattle.vx_fn.specs.Faults.{node_fault, divides_by_zero, has_fault, is_outside, misfits, row_fault, fill_of, is_bad_fill, some_differ, differs, when}
+use Rattle.vx_fn.specs.Functions.{binary, computes, fill_null}
+use Rattle.vx_fn.specs.Values.{computed, at_two}
 use Rattle.vx_eval.specs.Columns.{row_at, rows_of}
 use Rattle.vx_eval.proofs.Filled.{first_row, no_row, map_map, all_rows}
 
@@ -82,7 +85,7 @@ fill_fault ts n c f long bad = ap (λ fs. when (is_bad_fill ts fs) BadFill) (fil
 pub fill_quiet : (ts : List LogicalType) (n : ℕ) (c f : List Datum) → length f ≡ n → is_bad_fill ts f ≡ false → node_fault fill_null ts (rows_of n (c ∷ f ∷ [])) ≡ None
 fill_quiet ts n c f long good = ap (λ fs. when (is_bad_fill ts fs) BadFill) (fills n c f long) ∙ ap (λ b. when b BadFill) good
 
--- ---- sums
+-- ---- arithmetic
 
 outside_same : (t : LogicalType) (ts : List LogicalType) (v : Datum) → is_outside (t ∷ ts) v ≡ is_outside (t ∷ []) v
 outside_same (ty (atomic (number p)) n) ts (int i) = refl
@@ -90,19 +93,26 @@ outside_same (ty (atomic (floating f)) n) ts (int i) = refl
 outside_same (ty (atomic (decimals p s)) n) ts (int i) = refl
 outside_same _ ts _ = refl
 
-pub add_fault : (t : LogicalType) (ts : List LogicalType) (n i : ℕ) (l r : List Datum) (a b : Datum) → i < n →
-    ((k : ℕ) → k < i → is_outside (t ∷ []) (sum_of (get_or l k null) (get_or r k null)) ≡ false) → a ≡ get_or l i null → b ≡ get_or r i null → IsTrue (is_outside (t ∷ []) (sum_of a b)) →
-    node_fault (binary adds) (t ∷ ts) (rows_of n (l ∷ r ∷ [])) ≡ Some (AddOverflow i)
-add_fault t ts n i l r a b within before left right outside =
-    let here : is_outside (t ∷ []) (sum_of (get_or l i null) (get_or r i null)) ≡ true = rw (← left, ← right) outside in
-    ap (option_map AddOverflow) (first_row (overflows (t ∷ ts)) (row_at (l ∷ r ∷ [])) n i within (λ k h. outside_same t ts _ ∙ before k h) (outside_same t ts _ ∙ here))
+fault_same : (a : Arithmetic) (t : LogicalType) (ts : List LogicalType) (row : List Datum) → has_fault a (t ∷ ts) row ≡ has_fault a (t ∷ []) row
+fault_same a t ts row = ap (λ b. divides_by_zero a row || b) (outside_same t ts (at_two (computed a) row))
 
-pub add_quiet : (t : LogicalType) (ts : List LogicalType) (n : ℕ) (l r : List Datum) → ((k : ℕ) → k < n → is_outside (t ∷ []) (sum_of (get_or l k null) (get_or r k null)) ≡ false) →
-    node_fault (binary adds) (t ∷ ts) (rows_of n (l ∷ r ∷ [])) ≡ None
-add_quiet t ts n l r all = ap (option_map AddOverflow) (no_row (overflows (t ∷ ts)) (row_at (l ∷ r ∷ [])) n (λ k h. outside_same t ts _ ∙ all k h))
+pub arithmetic_faults : (a : Arithmetic) (t : LogicalType) (ts : List LogicalType) (n i : ℕ) (l r : List Datum) (v w : Datum) (e : VortexError) → i < n →
+    ((k : ℕ) → k < i → has_fault a (t ∷ []) (get_or l k null ∷ get_or r k null ∷ []) ≡ false) → v ≡ get_or l i null → w ≡ get_or r i null → has_fault a (t ∷ []) (v ∷ w ∷ []) ≡ true → e ≡ row_fault a (v ∷ w ∷ []) i →
+    node_fault (binary (computes a)) (t ∷ ts) (rows_of n (l ∷ r ∷ [])) ≡ Some e
+arithmetic_faults a t ts n i l r v w e within before left right faulty is =
+    let rows = rows_of n (l ∷ r ∷ []) in
+    let here : has_fault a (t ∷ []) (get_or l i null ∷ get_or r i null ∷ []) ≡ true = rw (← left, ← right) faulty in
+    let row : get_or rows i [] ≡ v ∷ w ∷ [] = get_or-map-range_with_len (row_at (l ∷ r ∷ [])) 0 n i i [] within (omega arith) ∙ rw (left, right) refl in
+    ap (option_map (λ k. row_fault a (get_or rows k []) k))
+    (first_row (has_fault a (t ∷ ts)) (row_at (l ∷ r ∷ [])) n i within (λ k h. fault_same a t ts (get_or l k null ∷ get_or r k null ∷ []) ∙ before k h) (fault_same a t ts (get_or l i null ∷ get_or r i null ∷ []) ∙ here))
+    ∙ ap (λ vs. Some (row_fault a vs i)) row ∙ ap Some (sym is)
 
-pub sum_at : (v a b c d : Datum) → v ≡ sum_of a b → a ≡ c → b ≡ d → v ≡ sum_of c d
-sum_at v a b c d e f g = cc
+pub arithmetic_quiet : (a : Arithmetic) (t : LogicalType) (ts : List LogicalType) (n : ℕ) (l r : List Datum) → ((k : ℕ) → k < n → has_fault a (t ∷ []) (get_or l k null ∷ get_or r k null ∷ []) ≡ false) →
+    node_fault (binary (computes a)) (t ∷ ts) (rows_of n (l ∷ r ∷ [])) ≡ None
+arithmetic_quiet a t ts n l r all = ap (option_map (λ k. row_fault a (get_or (rows_of n (l ∷ r ∷ [])) k []) k)) (no_row (has_fault a (t ∷ ts)) (row_at (l ∷ r ∷ [])) n (λ k h. fault_same a t ts (get_or l k null ∷ get_or r k null ∷ []) ∙ all k h))
 
-pub inside_at : (t : LogicalType) (v a b c d : Datum) → is_outside (t ∷ []) v ≡ false → v ≡ sum_of a b → a ≡ c → b ≡ d → is_outside (t ∷ []) (sum_of c d) ≡ false
-inside_at t v a b c d h e f g = ap (is_outside (t ∷ [])) (sym (sum_at v a b c d e f g)) ∙ h
+pub computed_at : (a : Arithmetic) (x v w c d : Datum) → x ≡ computed a v w → v ≡ c → w ≡ d → x ≡ computed a c d
+computed_at a x v w c d e f g = e ∙ ap (λ z. computed a z w) f ∙ ap (computed a c) g
+
+pub quiet_at : (a : Arithmetic) (t : LogicalType) (v w c d : Datum) → has_fault a (t ∷ []) (v ∷ w ∷ []) ≡ false → v ≡ c → w ≡ d → has_fault a (t ∷ []) (c ∷ d ∷ []) ≡ false
+quiet_at a t v w c d h f g = rw (← f, ← g) h

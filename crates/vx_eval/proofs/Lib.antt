@@ -14,4 +14,6 @@ mod Conjoined
 pub mod Masked
 mod Branches
 pub mod Cuts
+mod Divisors
+mod Results
 mod Leaves

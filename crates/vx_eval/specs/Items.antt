@@ -4,7 +4,7 @@ use Rattle.std.specs.List.{AllByRecursion}
 pub use Rattle.vx_value.specs.Items.{datum_at, item_at}
 pub use Rattle.vx_value.specs.StructColumns.{HaveRow}
 use Rattle.vx_value.specs.Types.{Datum, null, bool}
-use Rattle.vx_fn.specs.Functions.{Operation, compares}
+use Rattle.vx_fn.specs.Functions.{Operation, compares, computes}
 use Rattle.vx_fn.specs.Values.{binary_value, kleene_and}
 use Rattle.vx_eval_masks.specs.Merges.{each_row, row_at}
 
@@ -17,6 +17,11 @@ truth_datum (Some b) = bool b
 abbrev pub is_comparison : Operation → Bool
 is_comparison (compares c) = true
 is_comparison _ = false
+
+-- whether the operation is arithmetic
+abbrev pub is_arithmetic : Operation → Bool
+is_arithmetic (computes a) = true
+is_arithmetic _ = false
 
 -- what the operation tells of the item at that place of each struct and of one value
 abbrev pub compared_items : Operation → ℕ → Datum → List Datum → List Datum

@@ -1,13 +1,15 @@
 -- What the kernels of single functions are told. No public contract names this file.
-use Rattle.std.specs.Prelude.{◌≡◌, ℕ, ◌<◌, ℤ, List, [], ◌∷◌, Option, Some, None, Result, Ok, Bool, false, not, ◌&&◌, if◌then◌else◌}
+use Rattle.std.specs.Prelude.{◌≡◌, ℕ, ◌<◌, ℤ, List, [], ◌∷◌, Option, Some, None, Result, Ok, MatchResult, Bool, true, false, not, ◌&&◌, if◌then◌else◌}
 use Rattle.std.specs.Int.Signed.{le_z}
+use Rattle.vx_dtype.specs.declared.error.VortexError.{VortexError}
+use Rattle.vx_floats.specs.declared.arithmetic.Arithmetic.{Arithmetic}
 use Rattle.vx_value.specs.declared.value.Value.{Value}
 use Rattle.vx_value.specs.Types.{LogicalType, Datum, null, bool, int, utf8, is_null_datum}
 use Rattle.vx_value.specs.Views.{value_of}
 use Rattle.std.specs.declared.cmp.Ordering.{Ordering}
 use Rattle.vx_fn.specs.Functions.{Operation, compares}
-use Rattle.vx_fn.specs.Faults.{is_outside}
-use Rattle.vx_fn.specs.Values.{agrees, flipped, is_true}
+use Rattle.vx_fn.specs.Faults.{has_fault, is_outside, row_fault}
+use Rattle.vx_fn.specs.Values.{agrees, computed, flipped, is_true}
 use Rattle.vx_eval_like.specs.Patterns.{Compiled, accepts}
 use Rattle.vx_eval.specs.Columns.{truth_datum}
 pub use Rattle.vx_eval.specs.Items.{is_comparison}
@@ -36,6 +38,12 @@ is_between lowest highest i = le_z lowest i && le_z i highest
 -- the whole numbers of the type are those from the lowest to the highest
 abbrev pub IsRange : LogicalType → ℤ → ℤ → Type 0
 IsRange t lowest highest = (i : ℤ) → is_outside (t ∷ []) (int i) ≡ not (is_between lowest highest i)
+
+-- a call gives what is computed of a row's two values, or the row's fault if it has one
+abbrev pub ComputesRow : Arithmetic → LogicalType → ℕ → Datum → Datum → Result Value VortexError → Type 0
+ComputesRow a t n v w r = MatchResult r
+    (λ x. (value_of x ≡ computed a v w) × (has_fault a (t ∷ []) (v ∷ w ∷ []) ≡ false))
+    (λ e. (e ≡ row_fault a (v ∷ w ∷ []) n) × (has_fault a (t ∷ []) (v ∷ w ∷ []) ≡ true))
 
 -- whether an order is one that a comparison asks for
 abbrev pub agrees_with : Operation → Ordering → Bool

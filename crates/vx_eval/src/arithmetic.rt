@@ -1,24 +1,28 @@
-// Sums.
-ghost use Rattle.std.specs.Prelude.{◌≡◌, ℤ, false, true, length, List, [], ◌∷◌, IsTrue, MatchOption};
+// Sums, differences, products, quotients and remainders.
+ghost use Rattle.std.specs.Prelude.{◌≡◌, ℤ, FitsSigned, SomeIff, false, true, length, List, [], ◌∷◌, IsTrue, MatchResult};
+ghost use Rattle.std.specs.Int.{w128};
+ghost use Rattle.vx_dtype.specs.declared.error.VortexError.TheVariants.{AddOverflow};
 ghost use Rattle.vx_value.specs.Fits.{fits_digits, fits_ptype};
 ghost use Rattle.vx_value.specs.Types.{LogicalType, float, int};
 ghost use Rattle.vx_value.specs.Views.{type_of, value_of};
-ghost use Rattle.vx_fn.specs.Faults.{is_outside};
-ghost use Rattle.vx_fn.specs.Functions.{binary, adds, is_number};
-ghost use Rattle.vx_fn.specs.Values.{sum_of};
+ghost use Rattle.vx_fn.specs.Faults.{divides_by_zero};
+ghost use Rattle.vx_fn.specs.Functions.{binary, computes, is_number};
+ghost use Rattle.vx_fn.specs.Values.{computed, whole_result};
 ghost use Rattle.vx_eval.specs.Columns.{rows_view, Evaluates};
-ghost use Rattle.vx_eval.specs.Kernels.{is_between, IsRange};
+ghost use Rattle.vx_eval.specs.Kernels.{is_between, ComputesRow, IsRange};
 
 use crate::rows::Rows;
 use std::alloc::Global;
 use vx_literals::power_of_ten;
-use vx_types::{DType, DecimalType, Float, PType, Value, VortexError, VortexResult};
+use vx_types::{Arithmetic, DType, DecimalType, Float, PType, Value, VortexError, VortexResult};
 
-/// The sums of two columns, of which the left one has the number type. Refuses with `AddOverflow`
-/// (13) and the first row whose sum is out of its range, and with `OutOfMemory` (1).
-pub fn add<'a>(
+/// What is computed of two columns, of which the left one has the number type. Refuses with the
+/// fault of the first row that has one: `AddOverflow` (13) where the result is out of the type's
+/// range, `DivisionByZero` (20) of whole numbers; and with `OutOfMemory` (1).
+pub fn compute<'a>(
     alloc: Global,
     count: usize,
+    arithmetic: Arithmetic,
     dtype: &DType,
     lhs: &Rows,
     rhs: &Rows,
@@ -26,17 +30,15 @@ pub fn add<'a>(
     requires number { IsTrue (is_number (type_of dtype.now)) }
     requires left { length (rows_view lhs.now) ≡ count }
     requires right { length (rows_view rhs.now) ≡ count }
-    ensures { (ts : List LogicalType) → Evaluates (binary adds) (type_of dtype.now ∷ ts) count (rows_view lhs.now ∷ rows_view rhs.now ∷ []) result }
+    ensures { (ts : List LogicalType) → Evaluates (binary (computes arithmetic)) (type_of dtype.now ∷ ts) count (rows_view lhs.now ∷ rows_view rhs.now ∷ []) result }
 {
     let range = range_of(dtype);
-    let mut sums = Vec::with_capacity(alloc, count)?;
+    let mut results = Vec::with_capacity(alloc, count)?;
     for i in 0..count {
-        match sum(dtype, range, lhs.row(i), rhs.row(i)) {
-            Some(value) => sums.push(value)?,
-            None => return Err(VortexError::AddOverflow { row: i }),
-        }
+        let result = row_result(arithmetic, dtype, range, i, lhs.row(i), rhs.row(i))?;
+        results.push(result)?;
     }
-    Ok(Rows::Owned(sums))
+    Ok(Rows::Owned(results))
 }
 
 // The whole numbers of a type: from the lowest to the highest.
@@ -93,49 +95,103 @@ fn number_range(number: PType) -> NumberRange
     NumberRange { lowest, highest }
 }
 
-// The sum, or None where it is out of the range, which is the type's; null with a null operand.
+// What is computed of the row's two values, null with a null operand, or the row's fault. The range
+// is the type's.
 #[inline]
-fn sum(dtype: &DType, range: NumberRange, v: &Value, w: &Value) -> Option<Value>
+fn row_result(
+    arithmetic: Arithmetic,
+    dtype: &DType,
+    range: NumberRange,
+    row: usize,
+    v: &Value,
+    w: &Value,
+) -> VortexResult<Value>
     requires number { IsTrue (is_number (type_of dtype.now)) }
     requires range { IsRange (type_of dtype.now) range.lowest range.highest }
-    ensures { MatchOption result (IsTrue (is_outside (type_of dtype.now ∷ []) (sum_of (value_of v.now) (value_of w.now))))
-        (λ s. (value_of s ≡ sum_of (value_of v.now) (value_of w.now)) × (is_outside (type_of dtype.now ∷ []) (value_of s) ≡ false)) }
+    ensures { ComputesRow arithmetic (type_of dtype.now) row (value_of v.now) (value_of w.now) result }
 {
     match v {
         Value::Int(a) => match w {
-            Value::Int(b) => match a.checked_add(*b) {
-                Some(n) => within(range, n),
-                None => None,
-            },
-            _ => Some(Value::Null),
+            Value::Int(b) => whole_result(arithmetic, dtype, range, row, *a, *b),
+            _ => Ok(Value::Null),
         },
         Value::Float(x) => match w {
-            Value::Float(y) => Some(float_sum(*x, *y)),
-            _ => Some(Value::Null),
+            Value::Float(y) => Ok(float_result(arithmetic, *x, *y)),
+            _ => Ok(Value::Null),
         },
-        _ => Some(Value::Null),
+        _ => Ok(Value::Null),
     }
 }
 
-// The sum of two floating-point numbers of one format, or null.
+// What is computed of the row's two whole numbers, or the row's fault. The range is the type's.
 #[inline]
-fn float_sum(x: Float, y: Float) -> Value
-    ensures { value_of result ≡ sum_of (float x) (float y) }
+fn whole_result(
+    arithmetic: Arithmetic,
+    dtype: &DType,
+    range: NumberRange,
+    row: usize,
+    a: i128,
+    b: i128,
+) -> VortexResult<Value>
+    requires range { IsRange (type_of dtype.now) range.lowest range.highest }
+    ensures { ComputesRow arithmetic (type_of dtype.now) row (int a) (int b) result }
 {
-    match x.sum(y) {
+    if divides_by_zero(arithmetic, b) {
+        return Err(VortexError::DivisionByZero { row });
+    }
+    match exact_result(arithmetic, a, b) {
+        Some(n) => within(range, row, n),
+        None => Err(VortexError::AddOverflow { row }),
+    }
+}
+
+// Whether whole numbers are divided by that one, and it is zero.
+#[inline]
+fn divides_by_zero(arithmetic: Arithmetic, b: i128) -> bool
+    ensures { (i : ℤ) → result ≡ divides_by_zero arithmetic (int i ∷ int b ∷ []) }
+{
+    match arithmetic {
+        Arithmetic::Sum | Arithmetic::Difference | Arithmetic::Product => false,
+        Arithmetic::Quotient | Arithmetic::Remainder => b == 0,
+    }
+}
+
+// What is computed of two whole numbers, if it has 128 bits. Asks no division by zero.
+#[inline]
+fn exact_result(arithmetic: Arithmetic, a: i128, b: i128) -> Option<i128>
+    requires { divides_by_zero arithmetic (int a ∷ int b ∷ []) ≡ false }
+    ensures { SomeIff result (FitsSigned w128 (whole_result arithmetic a b)) (whole_result arithmetic a b) }
+{
+    match arithmetic {
+        Arithmetic::Sum => a.checked_add(b),
+        Arithmetic::Difference => a.checked_sub(b),
+        Arithmetic::Product => a.checked_mul(b),
+        Arithmetic::Quotient => a.checked_div(b),
+        Arithmetic::Remainder => Some(a.wrapping_rem(b)),
+    }
+}
+
+// What is computed of two floating-point numbers of one format, or null.
+#[inline]
+fn float_result(arithmetic: Arithmetic, x: Float, y: Float) -> Value
+    ensures { value_of result ≡ computed arithmetic (float x) (float y) }
+{
+    match x.compute(arithmetic, y) {
         Some(z) => Value::Float(z),
         None => Value::Null,
     }
 }
 
-// The number where it lies in the range.
+// The number where it lies in the range, else the row's fault.
 #[inline]
-fn within(range: NumberRange, n: i128) -> Option<Value>
-    ensures { MatchOption result (is_between range.lowest range.highest n ≡ false) (λ v. (value_of v ≡ int n) × (is_between range.lowest range.highest n ≡ true)) }
+fn within(range: NumberRange, row: usize, n: i128) -> VortexResult<Value>
+    ensures { MatchResult result
+        (λ v. (value_of v ≡ int n) × (is_between range.lowest range.highest n ≡ true))
+        (λ e. (e ≡ AddOverflow row) × (is_between range.lowest range.highest n ≡ false)) }
 {
     if range.lowest <= n && n <= range.highest {
-        Some(Value::Int(n))
+        Ok(Value::Int(n))
     } else {
-        None
+        Err(VortexError::AddOverflow { row })
     }
 }

@@ -138,7 +138,13 @@ fn holds(operator: Operator, a: i128, b: i128) -> bool
         Operator::Gte => a >= b,
         Operator::Lt => a < b,
         Operator::Lte => a <= b,
-        Operator::And | Operator::Or | Operator::Add => unreachable!(),
+        Operator::And
+        | Operator::Or
+        | Operator::Add
+        | Operator::Sub
+        | Operator::Mul
+        | Operator::Div
+        | Operator::Rem => unreachable!(),
     }
 }
 
@@ -154,7 +160,13 @@ fn agrees(operator: Operator, order: Ordering) -> bool
         Operator::Gte => order.is_ge(),
         Operator::Lt => order.is_lt(),
         Operator::Lte => order.is_le(),
-        Operator::And | Operator::Or | Operator::Add => unreachable!(),
+        Operator::And
+        | Operator::Or
+        | Operator::Add
+        | Operator::Sub
+        | Operator::Mul
+        | Operator::Div
+        | Operator::Rem => unreachable!(),
     }
 }
 

@@ -2,19 +2,20 @@
 ghost use Rattle.std.specs.Prelude.{◌≡◌, ◌<◌, length, List, [], ◌∷◌, IsOk, IsTrue};
 ghost use Rattle.vx_value.specs.Types.{LogicalType};
 ghost use Rattle.vx_value.specs.Views.{type_of};
-ghost use Rattle.vx_fn.specs.Functions.{fn_type, adds, is_number};
+ghost use Rattle.vx_fn.specs.Functions.{fn_type, computes, is_number};
 ghost use Rattle.vx_fn.specs.Functions as functions;
 ghost use Rattle.vx_fn.specs.Views.{function_of, operation_of};
 ghost use Rattle.vx_tree.specs.Trees.{no_bound, bound, node_types};
 ghost use Rattle.vx_tree.specs.Views.{bound_of, bounds_of};
 ghost use Rattle.vx_eval.specs.Columns.{rows_view, rows_views, AllLong, Evaluates};
+ghost use Rattle.vx_eval.specs.Items.{is_arithmetic};
 
 use crate::rows::Rows;
 use crate::{arithmetic, casting, choice, comparison, fields, logic, nulls, text};
 use std::alloc::Global;
 use vx_fn::{Operator, ScalarFnRef};
 use vx_tree::BoundExpression;
-use vx_types::{DType, Scalar, VortexResult};
+use vx_types::{Arithmetic, DType, Scalar, VortexResult};
 
 /// The function over its children's columns, or its fault over their rows.
 pub fn apply<'a>(
@@ -88,7 +89,7 @@ fn binary<'a>(
     dtype: &DType,
     columns: Vec<Rows<'a>>,
 ) -> VortexResult<Rows<'a>>
-    requires numbers { operation_of operator ≡ adds → IsTrue (is_number (type_of dtype.now)) }
+    requires numbers { IsTrue (is_arithmetic (operation_of operator)) → IsTrue (is_number (type_of dtype.now)) }
     requires two { length columns.items ≡ 2 }
     requires long { AllLong count (rows_views columns.items) }
     ensures { (ts : List LogicalType) → Evaluates (functions.binary (operation_of operator)) (type_of dtype.now ∷ ts) count (rows_views columns.entry.items) result }
@@ -102,10 +103,11 @@ fn binary<'a>(
             let (lhs, rhs) = pair(columns.as_slice());
             logic::or(alloc, count, lhs, rhs)
         }
-        Operator::Add => {
-            let (lhs, rhs) = pair(columns.as_slice());
-            arithmetic::add(alloc, count, dtype, lhs, rhs)
-        }
+        Operator::Add => computed(alloc, count, Arithmetic::Sum, dtype, columns),
+        Operator::Sub => computed(alloc, count, Arithmetic::Difference, dtype, columns),
+        Operator::Mul => computed(alloc, count, Arithmetic::Product, dtype, columns),
+        Operator::Div => computed(alloc, count, Arithmetic::Quotient, dtype, columns),
+        Operator::Rem => computed(alloc, count, Arithmetic::Remainder, dtype, columns),
         Operator::Eq
         | Operator::NotEq
         | Operator::Gt
@@ -116,6 +118,23 @@ fn binary<'a>(
             comparison::compare(alloc, count, operator, lhs, rhs)
         }
     }
+}
+
+// The arithmetic over two columns, of which the left one has that number type.
+fn computed<'a>(
+    alloc: Global,
+    count: usize,
+    arithmetic: Arithmetic,
+    dtype: &DType,
+    columns: Vec<Rows<'a>>,
+) -> VortexResult<Rows<'a>>
+    requires number { IsTrue (is_number (type_of dtype.now)) }
+    requires two { length columns.items ≡ 2 }
+    requires long { AllLong count (rows_views columns.items) }
+    ensures { (ts : List LogicalType) → Evaluates (functions.binary (computes arithmetic)) (type_of dtype.now ∷ ts) count (rows_views columns.entry.items) result }
+{
+    let (lhs, rhs) = pair(columns.as_slice());
+    arithmetic::compute(alloc, count, arithmetic, dtype, lhs, rhs)
 }
 
 // The one child.

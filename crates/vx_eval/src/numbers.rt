@@ -33,7 +33,13 @@ impl NumberTest {
             Operator::Gte => (false, true, true),
             Operator::Lt => (true, false, false),
             Operator::Lte => (true, true, false),
-            Operator::And | Operator::Or | Operator::Add => unreachable!(),
+            Operator::And
+            | Operator::Or
+            | Operator::Add
+            | Operator::Sub
+            | Operator::Mul
+            | Operator::Div
+            | Operator::Rem => unreachable!(),
         };
         match value {
             Value::Int(number) => Some(NumberTest {

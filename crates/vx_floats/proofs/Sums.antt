@@ -1,17 +1,20 @@
--- A sum is the same over exchanged operands.
+-- Sums and products are the same over exchanged operands.
 use mathlib.Core.Path.{◌≡◌, refl, ap, sym, ◌∙◌}
 use Rattle.std.specs.Prelude.{Some}
+use Rattle.std.specs.Option.{option_map}
 use mathlib.Core.Bool.{Bool, true, false, cond, ◌&&◌}
 use Prim.Native.Nat.{ℕ, ◌-◌, ◌*◌}
 use native.Mathlib.Nat.{add_comm, mul_comm}
 use native.Mathlib.Omega.{arith}
 use borrow.Author.Tests.{ltb-true, ltb-false}
-use lib.Dec.{ltb}
-use lib.Ieee.{Format, nan, inf, fin, add, sum, round, up, down, of_bits, to_bits, binary32, binary64}
+use lib.Dec.{ltb, eqb}
+use lib.Ieee.{Format, nan, inf, fin, add, sum, mul, unlike, round, up, down, of_bits, to_bits, binary32, binary64}
 use lib.Ieee as Ieee
+use Rattle.vx_floats.specs.declared.arithmetic.Arithmetic.{Arithmetic}
+use Rattle.vx_floats.specs.declared.arithmetic.Arithmetic.TheVariants.{Sum, Product}
 use Rattle.vx_floats.specs.declared.float.Float.{Float}
 use Rattle.vx_floats.specs.declared.float.Float.TheVariants.{F32, F64}
-use Rattle.vx_floats.specs.Floats.{float_sum}
+use Rattle.vx_floats.specs.Floats.{ieee_result, float_result}
 
 -- the sum of a number and of one of the other sign, by which of them is the greater
 apart-turned : (f : Format) (a b c : ℕ) (x y : Bool) → ltb a b ≡ x → ltb b a ≡ y → cond x (round f false (b - a) c) (round f (true && y) (a - b) c) ≡ cond y (round f true (a - b) c) (round f (false && x) (b - a) c)
@@ -43,8 +46,39 @@ add-turned f (fin s m e) (inf t) = refl
 add-turned f (fin s m e) (fin t n d) =
     sum-turned f s (m * up e * down d) t (n * up d * down e) (down e * down d) ∙ ap (λ c. sum f t (n * up d * down e) s (m * up e * down d) c) (mul_comm (down e) (down d))
 
-pub float_sum-turned : (x y : Float) → float_sum x y ≡ float_sum y x
-float_sum-turned (F32 a) (F32 b) = ap (λ z. Some (F32 (to_bits binary32 z))) (add-turned binary32 (of_bits binary32 a) (of_bits binary32 b))
-float_sum-turned (F64 a) (F64 b) = ap (λ z. Some (F64 (to_bits binary64 z))) (add-turned binary64 (of_bits binary64 a) (of_bits binary64 b))
-float_sum-turned (F32 a) (F64 b) = refl
-float_sum-turned (F64 a) (F32 b) = refl
+-- ---- products
+
+unlike-turned : (s t : Bool) → unlike s t ≡ unlike t s
+unlike-turned true true = refl
+unlike-turned true false = refl
+unlike-turned false true = refl
+unlike-turned false false = refl
+
+mul-turned : (f : Format) (x y : Ieee.Float) → mul f x y ≡ mul f y x
+unfolding mul
+mul-turned f nan nan = refl
+mul-turned f nan (inf t) = refl
+mul-turned f nan (fin t n d) = refl
+mul-turned f (inf s) nan = refl
+mul-turned f (inf s) (inf t) = ap inf (unlike-turned s t)
+mul-turned f (inf s) (fin t n d) = ap (λ r. cond (eqb n 0) nan (inf r)) (unlike-turned s t)
+mul-turned f (fin s m e) nan = refl
+mul-turned f (fin s m e) (inf t) = ap (λ r. cond (eqb m 0) nan (inf r)) (unlike-turned s t)
+mul-turned f (fin s m e) (fin t n d) =
+    ap (λ r. round f r (m * up e * (n * up d)) (down e * down d)) (unlike-turned s t)
+    ∙ ap (λ k. round f (unlike t s) k (down e * down d)) (mul_comm (m * up e) (n * up d))
+    ∙ ap (λ k. round f (unlike t s) (n * up d * (m * up e)) k) (mul_comm (down e) (down d))
+
+-- ---- by their bits
+
+turned : (a : Arithmetic) → ((f : Format) (x y : Ieee.Float) → ieee_result a f x y ≡ ieee_result a f y x) → (x y : Float) → float_result a x y ≡ float_result a y x
+turned a same (F32 x) (F32 y) = ap (option_map (λ z. F32 (to_bits binary32 z))) (same binary32 (of_bits binary32 x) (of_bits binary32 y))
+turned a same (F64 x) (F64 y) = ap (option_map (λ z. F64 (to_bits binary64 z))) (same binary64 (of_bits binary64 x) (of_bits binary64 y))
+turned a same (F32 x) (F64 y) = refl
+turned a same (F64 x) (F32 y) = refl
+
+pub float_sum-turned : (x y : Float) → float_result Sum x y ≡ float_result Sum y x
+float_sum-turned = turned Sum (λ f x y. ap Some (add-turned f x y))
+
+pub float_product-turned : (x y : Float) → float_result Product x y ≡ float_result Product y x
+float_product-turned = turned Product (λ f x y. ap Some (mul-turned f x y))

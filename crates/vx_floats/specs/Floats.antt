@@ -1,13 +1,17 @@
--- Floating-point numbers by their bits: which are the same, which come first, their sum, and the one NaN.
+-- Floating-point numbers by their bits: which are the same, which come first, what is computed of two, and the one NaN.
 use Rattle.std.specs.Prelude.{ℕ, ◌+◌, ◌-◌, ◌==◌, ◌++◌, Bool, false, Option, Some, None, from_bits, to_bits, nat_lt, if◌then◌else◌}
-use Rattle.std.specs.Float.{binary32, binary64}
-use Rattle.std.specs.Float.Ieee.{add}
+use Rattle.std.specs.Float.{Format, binary32, binary64}
+use Rattle.std.specs.Float as ieee
+use Rattle.std.specs.Float.Ieee.{add, sub, mul, div}
+use Rattle.std.specs.Option.{option_map}
 use Rattle.std.specs.Hash.{HashWrites}
 use Rattle.std.specs.Hash as fed
 use Rattle.std.specs.Ordering.{nat_cmp}
 use Rattle.std.specs.declared.cmp.Ordering.{Ordering}
 use Rattle.std.specs.declared.cmp.Ordering.TheVariants.{Less, Greater}
 use Rattle.vx_dtype.specs.declared.float_type.FloatType.{FloatType}
+use Rattle.vx_floats.specs.declared.arithmetic.Arithmetic.{Arithmetic}
+use Rattle.vx_floats.specs.declared.arithmetic.Arithmetic.TheVariants.{Sum, Difference, Product, Quotient, Remainder}
 use Rattle.vx_floats.specs.declared.float.Float.{Float}
 use Rattle.vx_floats.specs.declared.float.Float.TheVariants.{F32, F64}
 
@@ -43,12 +47,20 @@ float_order (F64 a) (F64 b) = nat_cmp (total_key 0x8000_0000_0000_0000 a) (total
 float_order (F32 a) (F64 b) = Less
 float_order (F64 a) (F32 b) = Greater
 
--- IEEE 754's sum, to nearest and to even at a tie, of two numbers of one format; each NaN is the quiet one
-abbrev pub float_sum : Float → Float → Option Float
-float_sum (F32 a) (F32 b) = Some (F32 (to_bits binary32 (add binary32 (from_bits binary32 a) (from_bits binary32 b))))
-float_sum (F64 a) (F64 b) = Some (F64 (to_bits binary64 (add binary64 (from_bits binary64 a) (from_bits binary64 b))))
-float_sum (F32 a) (F64 b) = None
-float_sum (F64 a) (F32 b) = None
+-- the arithmetic on numbers of a format: IEEE 754's, to nearest and to even at a tie; the remainder isn't computed
+abbrev pub ieee_result : Arithmetic → Format → ieee.Float → ieee.Float → Option ieee.Float
+ieee_result Sum f x y = Some (add f x y)
+ieee_result Difference f x y = Some (sub f x y)
+ieee_result Product f x y = Some (mul f x y)
+ieee_result Quotient f x y = Some (div f x y)
+ieee_result Remainder f x y = None
+
+-- the same on two numbers of one format, by their bits; each NaN is the quiet one
+abbrev pub float_result : Arithmetic → Float → Float → Option Float
+float_result a (F32 x) (F32 y) = option_map (λ z. F32 (to_bits binary32 z)) (ieee_result a binary32 (from_bits binary32 x) (from_bits binary32 y))
+float_result a (F64 x) (F64 y) = option_map (λ z. F64 (to_bits binary64 z)) (ieee_result a binary64 (from_bits binary64 x) (from_bits binary64 y))
+float_result a (F32 x) (F64 y) = None
+float_result a (F64 x) (F32 y) = None
 
 -- a number is hashed as its format and its bits
 abbrev pub float_fed : Float → HashWrites

@@ -1,9 +1,7 @@
 // Floating-point numbers by their bits.
-ghost use Rattle.std.specs.Prelude.{◌≡◌, IsTrue, fold, from_bits, to_bits};
-ghost use Rattle.std.specs.Float.{binary32, binary64};
-ghost use Rattle.std.specs.Float.Ieee.{add};
+ghost use Rattle.std.specs.Prelude.{◌≡◌, IsTrue, fold};
 ghost use Rattle.vx_floats.specs.declared.float.Float.TheVariants as Float;
-ghost use Rattle.vx_floats.specs.Floats.{canonical, float_fed, float_order, float_sum, format_of, is_canonical, same_float, total_key};
+ghost use Rattle.vx_floats.specs.Floats.{canonical, float_fed, float_order, format_of, is_canonical, same_float, total_key};
 
 use std::cmp::Ordering;
 use std::hash::Hasher;
@@ -96,22 +94,6 @@ impl Float {
         }
     }
 
-    /// IEEE 754's sum, to nearest and to even at a tie. None where the formats differ.
-    pub fn sum(self, other: Float) -> Option<Float>
-        ensures { result ≡ float_sum self other }
-    {
-        match self {
-            Float::F32(a) => match other {
-                Float::F32(b) => Some(Float::F32(sum_of_32(a, b))),
-                Float::F64(_) => None,
-            },
-            Float::F64(a) => match other {
-                Float::F32(_) => None,
-                Float::F64(b) => Some(Float::F64(sum_of_64(a, b))),
-            },
-        }
-    }
-
     /// Feeds the number to the hasher: its format and its bits.
     pub fn feed<H: Hasher>(self, state: &mut H)
         ensures { state.new ≡ fold H.write state.old (float_fed self) }
@@ -149,18 +131,4 @@ fn key_of_64(bits: u64) -> u64
     } else {
         0xffff_ffff_ffff_ffff - bits
     }
-}
-
-// The bits of the sum.
-fn sum_of_32(a: u32, b: u32) -> u32
-    ensures { result ≡ to_bits binary32 (add binary32 (from_bits binary32 a) (from_bits binary32 b)) }
-{
-    f32_to_bits_with_nan(f32_from_bits_with_nan(a) + f32_from_bits_with_nan(b))
-}
-
-// The bits of the sum.
-fn sum_of_64(a: u64, b: u64) -> u64
-    ensures { result ≡ to_bits binary64 (add binary64 (from_bits binary64 a) (from_bits binary64 b)) }
-{
-    f64_to_bits_with_nan(f64_from_bits_with_nan(a) + f64_from_bits_with_nan(b))
 }

@@ -1,6 +1,7 @@
-// Floating-point numbers by their bits: their order, their sum and their texts.
+// Floating-point numbers by their bits: their order, their arithmetic and their texts.
 #![tactic(auto)]
 
+mod arithmetic;
 mod decimals;
 mod float;
 pub mod laws;
@@ -8,6 +9,7 @@ mod parts;
 mod reading;
 mod texts;
 
+pub use arithmetic::Arithmetic;
 pub use float::Float;
 pub use reading::read_float;
 pub use texts::has_value_text;

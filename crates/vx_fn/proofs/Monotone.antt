@@ -11,7 +11,7 @@ use Rattle.vx_value.specs.Fields.{field_type, field_names, names_without, projec
 use Rattle.vx_fn.specs.Functions.{Function, get_item, mask, selection_names, included, conditions, branches, is_truth}
 use Rattle.vx_fn.specs.declared.options.FieldSelection.{FieldSelection}
 use Rattle.vx_fn.specs.declared.options.FieldSelection.TheVariants.{Include, Exclude}
-use Rattle.vx_fn.specs.Rows.{FnType, of_case_else, of_case, of_get_item, of_literal, of_pack, of_select, of_fill_null, of_zip, of_comparison, of_and, of_or, of_add, of_add_floats, of_add_decimals, of_not, of_between, of_like, of_is_null, of_is_not_null, of_mask, of_cast}
+use Rattle.vx_fn.specs.Rows.{FnType, of_case_else, of_case, of_get_item, of_literal, of_pack, of_select, of_fill_null, of_zip, of_comparison, of_and, of_or, of_arithmetic, of_float_arithmetic, of_decimal_arithmetic, of_not, of_between, of_like, of_is_null, of_is_not_null, of_mask, of_cast}
 
 -- ---- nullability
 
@@ -226,9 +226,9 @@ fn_type-mono (of_zip s) (forall2_cons p (forall2_cons q (forall2_cons (narrower 
 fn_type-mono (of_comparison s) (forall2_cons (narrower same_atomic_shape i) (forall2_cons (narrower same_atomic_shape j) forall2_nil)) = (_, of_comparison s, narrower same_atomic_shape (or_mono _ _ _ _ i j))
 fn_type-mono of_and (forall2_cons (narrower same_atomic_shape i) (forall2_cons (narrower same_atomic_shape j) forall2_nil)) = (_, of_and, narrower same_atomic_shape (or_mono _ _ _ _ i j))
 fn_type-mono of_or (forall2_cons (narrower same_atomic_shape i) (forall2_cons (narrower same_atomic_shape j) forall2_nil)) = (_, of_or, narrower same_atomic_shape (or_mono _ _ _ _ i j))
-fn_type-mono (of_add_floats s) (forall2_cons (narrower same_atomic_shape i) (forall2_cons (narrower same_atomic_shape j) forall2_nil)) = (_, of_add_floats s, narrower same_atomic_shape (or_mono _ _ _ _ i j))
-fn_type-mono (of_add_decimals s) (forall2_cons (narrower same_atomic_shape i) (forall2_cons (narrower same_atomic_shape j) forall2_nil)) = (_, of_add_decimals s, narrower same_atomic_shape (or_mono _ _ _ _ i j))
-fn_type-mono (of_add s) (forall2_cons (narrower same_atomic_shape i) (forall2_cons (narrower same_atomic_shape j) forall2_nil)) = (_, of_add s, narrower same_atomic_shape (or_mono _ _ _ _ i j))
+fn_type-mono (of_float_arithmetic k s) (forall2_cons (narrower same_atomic_shape i) (forall2_cons (narrower same_atomic_shape j) forall2_nil)) = (_, of_float_arithmetic k s, narrower same_atomic_shape (or_mono _ _ _ _ i j))
+fn_type-mono (of_decimal_arithmetic k s) (forall2_cons (narrower same_atomic_shape i) (forall2_cons (narrower same_atomic_shape j) forall2_nil)) = (_, of_decimal_arithmetic k s, narrower same_atomic_shape (or_mono _ _ _ _ i j))
+fn_type-mono (of_arithmetic s) (forall2_cons (narrower same_atomic_shape i) (forall2_cons (narrower same_atomic_shape j) forall2_nil)) = (_, of_arithmetic s, narrower same_atomic_shape (or_mono _ _ _ _ i j))
 fn_type-mono of_not (forall2_cons (narrower same_atomic_shape i) forall2_nil) = (_, of_not, narrower same_atomic_shape i)
 fn_type-mono (of_between s r) (forall2_cons (narrower same_atomic_shape i) (forall2_cons (narrower same_atomic_shape j) (forall2_cons (narrower same_atomic_shape k) forall2_nil))) = (_, of_between s r, narrower same_atomic_shape (or_mono _ _ _ _ (or_mono _ _ _ _ i j) k))
 fn_type-mono of_like (forall2_cons (narrower same_atomic_shape i) (forall2_cons (narrower same_atomic_shape j) forall2_nil)) = (_, of_like, narrower same_atomic_shape (or_mono _ _ _ _ i j))

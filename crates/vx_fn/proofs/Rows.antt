@@ -8,11 +8,12 @@ use Rattle.vx_value.specs.Types.{Name, Atomic, truth, number, floating, decimals
 use Rattle.vx_value.specs.Joins.{same_base, join, union, union_all}
 use Rattle.vx_value.specs.Fields.{field_type, project, first_unknown, fields_named}
 use Rattle.vx_value.specs.Returns.{known_or}
-use Rattle.vx_fn.specs.Functions.{Function, case_when, get_item, literal, pack, select, fill_null, zip, binary, logical_not, between, like, is_null, is_not_null, mask, cast, Operation, compares, and_also, or_else, adds, Comparison, selection_names, included, case_children, conditions, branches, is_truth, is_text, is_atomic, Typing, of_none, of_one, of_two, of_three, of_many, needs, fn_type, case_union, case_type, item_type, found, with_else, select_type, binary_type, truth_type}
+use Rattle.vx_floats.specs.declared.arithmetic.Arithmetic.{Arithmetic}
+use Rattle.vx_fn.specs.Functions.{Function, case_when, get_item, literal, pack, select, fill_null, zip, binary, logical_not, between, like, is_null, is_not_null, mask, cast, Operation, compares, and_also, or_else, computes, Comparison, selection_names, included, case_children, conditions, branches, is_truth, is_text, is_number_for, is_atomic, Typing, of_none, of_one, of_two, of_three, of_many, needs, fn_type, case_union, case_type, item_type, found, with_else, select_type, binary_type, truth_type}
 use Rattle.vx_fn.specs.declared.options.FieldSelection.{FieldSelection}
 use Rattle.vx_dtype.specs.declared.error.VortexError.{VortexError}
 use Rattle.vx_dtype.specs.declared.error.VortexError.TheVariants.{ArityMismatch, NotBool, NotText, NotComparable, BaseTypesDiffer}
-use Rattle.vx_fn.specs.Rows.{FnType, of_case_else, of_case, of_get_item, of_literal, of_pack, of_select, of_fill_null, of_zip, of_comparison, of_and, of_or, of_add, of_add_floats, of_add_decimals, of_not, of_between, of_like, of_is_null, of_is_not_null, of_mask, of_cast}
+use Rattle.vx_fn.specs.Rows.{FnType, of_case_else, of_case, of_get_item, of_literal, of_pack, of_select, of_fill_null, of_zip, of_comparison, of_and, of_or, of_arithmetic, of_float_arithmetic, of_decimal_arithmetic, of_not, of_between, of_like, of_is_null, of_is_not_null, of_mask, of_cast}
 
 -- ---- a number of children
 
@@ -116,11 +117,18 @@ row_compares c t a b e =
     (λ p n. atomic_ok (λ b. same_base (ty (atomic p) n) b ≡ true → ok_ty (truth_type (n || is_nullable b)) ≡ Ok t → FnType (binary (compares c)) (ty (atomic p) n ∷ b ∷ []) t)
     (λ p' m s d. ok_at (binary (compares c)) _ (of_comparison s) d) b h.1) a h.0 r.0 r.1
 
-row_adds : (t a b : LogicalType) → binary_type adds a b ≡ Ok t → FnType (binary adds) (a ∷ b ∷ []) t
-row_adds t (ty (atomic (number p)) n) (ty (atomic (number q)) m) e = let r = needs_ok _ _ _ e in ok_at (binary adds) _ (of_add r.0) r.1
-row_adds t (ty (atomic (floating f)) n) (ty (atomic (floating g)) m) e = let d = needs_ok _ _ _ e in ok_at (binary adds) _ (of_add_floats d.0) d.1
-row_adds t (ty (atomic (decimals p s)) n) (ty (atomic (decimals q r)) m) e = let d = needs_ok _ _ _ e in ok_at (binary adds) _ (of_add_decimals d.0) d.1
-row_adds t _ _ e = cc
+row_computes : (c : Arithmetic) (t a b : LogicalType) → binary_type (computes c) a b ≡ Ok t → FnType (binary (computes c)) (a ∷ b ∷ []) t
+row_computes c t a b e =
+    let k = needs_ok _ _ _ e in
+    let d = needs_ok _ _ _ k.1 in
+    let h = and_parts _ _ k.0 in
+    go a b h.0 h.1 d.0 d.1
+  where
+    go : (a b : LogicalType) → is_number_for c a ≡ true → is_number_for c b ≡ true → same_base a b ≡ true → ok_ty (with_nullability (is_nullable a || is_nullable b) a) ≡ Ok t → FnType (binary (computes c)) (a ∷ b ∷ []) t
+    go (ty (atomic (number p)) n) (ty (atomic (number q)) m) h k s r = ok_at (binary (computes c)) _ (of_arithmetic s) r
+    go (ty (atomic (floating f)) n) (ty (atomic (floating g)) m) h k s r = ok_at (binary (computes c)) _ (of_float_arithmetic h s) r
+    go (ty (atomic (decimals p x)) n) (ty (atomic (decimals q y)) m) h k s r = ok_at (binary (computes c)) _ (of_decimal_arithmetic h s) r
+    go _ _ h k s r = cc
 
 row_and : (t a b : LogicalType) → binary_type and_also a b ≡ Ok t → FnType (binary and_also) (a ∷ b ∷ []) t
 row_and t a b e =
@@ -175,7 +183,7 @@ row_binary : (op : Operation) (t a b : LogicalType) → binary_type op a b ≡ O
 row_binary (compares c) t a b e = row_compares c t a b e
 row_binary and_also t a b e = row_and t a b e
 row_binary or_else t a b e = row_or t a b e
-row_binary adds t a b e = row_adds t a b e
+row_binary (computes c) t a b e = row_computes c t a b e
 
 pub fn_type-found : (f : Function) (ts : List LogicalType) (t : LogicalType) → fn_type f ts ≡ Ok t → FnType f ts t
 fn_type-found (case_when k h) ts t e = let q = many_ok _ (case_type k h) _ _ e in row_case k h ts t q.0 q.1
@@ -206,9 +214,9 @@ fn_type-only (of_zip e) = rw e
 fn_type-only (of_comparison e) = rw e
 fn_type-only of_and = refl
 fn_type-only of_or = refl
-fn_type-only (of_add e) = rw e
-fn_type-only (of_add_floats e) = rw e
-fn_type-only (of_add_decimals e) = rw e
+fn_type-only (of_arithmetic e) = rw e
+fn_type-only (of_float_arithmetic k e) = rw (k, e)
+fn_type-only (of_decimal_arithmetic k e) = rw (k, e)
 fn_type-only of_not = refl
 fn_type-only (of_between a b) = rw (a, b)
 fn_type-only of_like = refl

@@ -1,13 +1,15 @@
 -- A well-typed tree gives a value of its type at each row of a batch on which it doesn't fault.
 use Rattle.std.proofs.Common.{IsTrue, ◌&&◌, ◌≡◌, ℕ, zero, suc, inl, inr, ◌+◌, ◌*◌, List, [], ◌∷◌, length, refl, sym, subst, Bool, true, false, ◌||◌, arith, ◌⊎◌}
-use Rattle.std.specs.Prelude.{Some, None, if◌then◌else◌}
-use Rattle.std.proofs.lemmas.Bool.{eqb-true, not-false, or_left, or_right}
+use Rattle.std.specs.Prelude.{Some, None, not, if◌then◌else◌}
+use Rattle.std.proofs.lemmas.Bool.{eqb-true, not-false, or_left, or_right, or_parts}
 use Rattle.vx_value.proofs.Fitting.{fits-not_null, fits-wider, fits-nullable, join-fits-left, join-fits-right, Into, into_none, into_more, union_all-into, field_value-fits, project-fits, pack-fits}
 use Rattle.vx_dtype.proofs.Known.{first_unknown-filter, first_unknown-own}
 use Rattle.vx_dtype.proofs.Unions.{same_atomic-eq}
 use Rattle.vx_floats.specs.Floats.{format_of, is_canonical}
 use Rattle.vx_floats.specs.declared.float.Float.{Float}
-use Rattle.vx_floats.proofs.Once.{sum_canonical}
+use Rattle.vx_floats.proofs.Once.{result_canonical}
+use Rattle.vx_floats.specs.declared.arithmetic.Arithmetic.{Arithmetic}
+use Rattle.vx_floats.specs.declared.arithmetic.Arithmetic.TheVariants.{Sum, Difference, Product, Quotient}
 use Rattle.vx_dtype.specs.declared.float_type.FloatType.{FloatType}
 use Rattle.vx_value.specs.Types.{Name, same_float_type, Atomic, truth, number, floating, decimals, text, LogicalType, ty, Shape, atomic, struct, Fields, Datum, null, bool, int, float, utf8, struct_of, is_nullable, with_nullability, is_null_datum}
 use Rattle.vx_value.specs.Fits.{fits, Fits, EachFits}
@@ -15,16 +17,16 @@ use Rattle.vx_dtype.specs.Lists.{forall2_nil, forall2_cons}
 use Rattle.vx_value.specs.Joins.{same_base, join}
 use Rattle.vx_value.specs.Fields.{field_type, field_value, project, first_unknown, field_names}
 use Rattle.vx_dtype.specs.declared.dtype.PType.{PType}
-use Rattle.vx_fn.specs.Functions.{Function, get_item, select, fill_null, binary, cast, adds, Comparison, selection_names, included, branches, HasFittingLiteral}
+use Rattle.vx_fn.specs.Functions.{Function, get_item, select, fill_null, binary, cast, computes, is_remainder, Comparison, selection_names, included, branches, HasFittingLiteral}
 use Rattle.vx_fn.specs.declared.options.FieldSelection.{FieldSelection}
 use Rattle.vx_fn.specs.declared.options.FieldSelection.TheVariants.{Include, Exclude}
-use Rattle.vx_fn.specs.Rows.{FnType, of_case_else, of_case, of_get_item, of_literal, of_pack, of_select, of_fill_null, of_zip, of_comparison, of_and, of_or, of_add, of_add_floats, of_add_decimals, of_not, of_between, of_like, of_is_null, of_is_not_null, of_mask, of_cast}
-use Rattle.vx_fn.specs.Values.{is_true, kleene_and, kleene_or, kleene_not, compared, agrees, order, bound_comparison, sum_of, liked, first_true, fn_value}
-use Rattle.vx_fn.specs.Faults.{overflows, misfits, is_fillable, fill_of}
+use Rattle.vx_fn.specs.Rows.{FnType, of_case_else, of_case, of_get_item, of_literal, of_pack, of_select, of_fill_null, of_zip, of_comparison, of_and, of_or, of_arithmetic, of_float_arithmetic, of_decimal_arithmetic, of_not, of_between, of_like, of_is_null, of_is_not_null, of_mask, of_cast}
+use Rattle.vx_fn.specs.Values.{is_true, kleene_and, kleene_or, kleene_not, compared, agrees, order, bound_comparison, computed, liked, first_true, fn_value}
+use Rattle.vx_fn.specs.Faults.{has_fault, misfits, is_fillable, fill_of}
 
 -- the row doesn't make the node fault
 abbrev pub IsSafe : Function → List LogicalType → List Datum → Type 0
-IsSafe (binary adds) ts vs = overflows ts vs ≡ false
+IsSafe (binary (computes a)) ts vs = has_fault a ts vs ≡ false
 IsSafe (cast t) ts vs = misfits t vs ≡ false
 IsSafe fill_null ts vs = (is_fillable ts ≡ true) × (is_null_datum (fill_of vs) ≡ false)
 IsSafe _ ts vs = Unit {0}
@@ -79,28 +81,36 @@ like-fits neg ci (utf8 t) null n m e h = or_right n m h
 like-fits neg ci (utf8 t) (utf8 p) n m e h = refl
 like-fits neg ci _ _ n m e h = cc
 
-sum-fits : (p q : PType) (v w : Datum) (n m : Bool) → Fits v (ty (atomic (number p)) n) → Fits w (ty (atomic (number q)) m) → overflows (ty (atomic (number p)) n ∷ ty (atomic (number q)) m ∷ []) (v ∷ w ∷ []) ≡ false → Fits (sum_of v w) (ty (atomic (number p)) (n || m))
-sum-fits p q null w n m e h s = or_left n m e
-sum-fits p q (int i) null n m e h s = or_right n m h
-sum-fits p q (int i) (int j) n m e h s = not-false _ s
-sum-fits p q _ _ n m e h s = cc
+-- ---- arithmetic
 
-float_sum-of : (f g : FloatType) (x y : Float) (n : Bool) → IsTrue (same_float_type f g) → IsTrue (same_float_type (format_of x) f && is_canonical x) → IsTrue (same_float_type (format_of y) g && is_canonical y) → Fits (sum_of (float x) (float y)) (ty (atomic (floating f)) n)
-float_sum-of FloatType.F32 FloatType.F32 (Float.F32 a) (Float.F32 b) n s e h = sum_canonical (Float.F32 a) (Float.F32 b)
-float_sum-of FloatType.F64 FloatType.F64 (Float.F64 a) (Float.F64 b) n s e h = sum_canonical (Float.F64 a) (Float.F64 b)
-float_sum-of _ _ _ _ n s e h = cc
+whole-fits : (a : Arithmetic) (p q : PType) (v w : Datum) (n m : Bool) → Fits v (ty (atomic (number p)) n) → Fits w (ty (atomic (number q)) m) → has_fault a (ty (atomic (number p)) n ∷ ty (atomic (number q)) m ∷ []) (v ∷ w ∷ []) ≡ false → Fits (computed a v w) (ty (atomic (number p)) (n || m))
+whole-fits a p q null w n m e h s = or_left n m e
+whole-fits a p q (int i) null n m e h s = or_right n m h
+whole-fits a p q (int i) (int j) n m e h s = not-false _ (or_parts _ _ s).1
+whole-fits a p q _ _ n m e h s = cc
 
-float_sum-fits : (f g : FloatType) (v w : Datum) (n m : Bool) → IsTrue (same_float_type f g) → Fits v (ty (atomic (floating f)) n) → Fits w (ty (atomic (floating g)) m) → Fits (sum_of v w) (ty (atomic (floating f)) (n || m))
-float_sum-fits f g null w n m s e h = or_left n m e
-float_sum-fits f g (float x) null n m s e h = or_right n m h
-float_sum-fits f g (float x) (float y) n m s e h = float_sum-of f g x y (n || m) s e h
-float_sum-fits f g _ _ n m s e h = cc
+float_result-of : (a : Arithmetic) (f g : FloatType) (x y : Float) (n : Bool) → IsTrue (not (is_remainder a)) → IsTrue (same_float_type f g) → IsTrue (same_float_type (format_of x) f && is_canonical x) → IsTrue (same_float_type (format_of y) g && is_canonical y) → Fits (computed a (float x) (float y)) (ty (atomic (floating f)) n)
+float_result-of Sum FloatType.F32 FloatType.F32 (Float.F32 x) (Float.F32 y) n k s e h = result_canonical Sum (Float.F32 x) (Float.F32 y)
+float_result-of Difference FloatType.F32 FloatType.F32 (Float.F32 x) (Float.F32 y) n k s e h = result_canonical Difference (Float.F32 x) (Float.F32 y)
+float_result-of Product FloatType.F32 FloatType.F32 (Float.F32 x) (Float.F32 y) n k s e h = result_canonical Product (Float.F32 x) (Float.F32 y)
+float_result-of Quotient FloatType.F32 FloatType.F32 (Float.F32 x) (Float.F32 y) n k s e h = result_canonical Quotient (Float.F32 x) (Float.F32 y)
+float_result-of Sum FloatType.F64 FloatType.F64 (Float.F64 x) (Float.F64 y) n k s e h = result_canonical Sum (Float.F64 x) (Float.F64 y)
+float_result-of Difference FloatType.F64 FloatType.F64 (Float.F64 x) (Float.F64 y) n k s e h = result_canonical Difference (Float.F64 x) (Float.F64 y)
+float_result-of Product FloatType.F64 FloatType.F64 (Float.F64 x) (Float.F64 y) n k s e h = result_canonical Product (Float.F64 x) (Float.F64 y)
+float_result-of Quotient FloatType.F64 FloatType.F64 (Float.F64 x) (Float.F64 y) n k s e h = result_canonical Quotient (Float.F64 x) (Float.F64 y)
+float_result-of _ _ _ _ _ n k s e h = cc
 
-decimal_sum-fits : (p a q b : ℕ) (v w : Datum) (n m : Bool) → Fits v (ty (atomic (decimals p a)) n) → Fits w (ty (atomic (decimals q b)) m) → overflows (ty (atomic (decimals p a)) n ∷ ty (atomic (decimals q b)) m ∷ []) (v ∷ w ∷ []) ≡ false → Fits (sum_of v w) (ty (atomic (decimals p a)) (n || m))
-decimal_sum-fits p a q b null w n m e h s = or_left n m e
-decimal_sum-fits p a q b (int i) null n m e h s = or_right n m h
-decimal_sum-fits p a q b (int i) (int j) n m e h s = not-false _ s
-decimal_sum-fits p a q b _ _ n m e h s = cc
+float-fits : (a : Arithmetic) (f g : FloatType) (v w : Datum) (n m : Bool) → IsTrue (not (is_remainder a)) → IsTrue (same_float_type f g) → Fits v (ty (atomic (floating f)) n) → Fits w (ty (atomic (floating g)) m) → Fits (computed a v w) (ty (atomic (floating f)) (n || m))
+float-fits a f g null w n m k s e h = or_left n m e
+float-fits a f g (float x) null n m k s e h = or_right n m h
+float-fits a f g (float x) (float y) n m k s e h = float_result-of a f g x y (n || m) k s e h
+float-fits a f g _ _ n m k s e h = cc
+
+decimal-fits : (a : Arithmetic) (p c q b : ℕ) (v w : Datum) (n m : Bool) → Fits v (ty (atomic (decimals p c)) n) → Fits w (ty (atomic (decimals q b)) m) → has_fault a (ty (atomic (decimals p c)) n ∷ ty (atomic (decimals q b)) m ∷ []) (v ∷ w ∷ []) ≡ false → Fits (computed a v w) (ty (atomic (decimals p c)) (n || m))
+decimal-fits a p c q b null w n m e h s = or_left n m e
+decimal-fits a p c q b (int i) null n m e h s = or_right n m h
+decimal-fits a p c q b (int i) (int j) n m e h s = not-false _ (or_parts _ _ s).1
+decimal-fits a p c q b _ _ n m e h s = cc
 
 -- ---- CASE
 
@@ -202,9 +212,9 @@ fn_value-fits (of_zip {t = t} {u = u} s) lit safe (forall2_cons {x = v} e (foral
 fn_value-fits (of_comparison {c = c} {p = p} {q = q} {n = n} {m = m} s) lit safe (forall2_cons {x = v} e (forall2_cons {x = w} h forall2_nil)) = compared-fits c v w (atomic p) (atomic q) n m e h
 fn_value-fits (of_and {n = n} {m = m}) lit safe (forall2_cons {x = v} e (forall2_cons {x = w} h forall2_nil)) = and-fits v w n m e h
 fn_value-fits (of_or {n = n} {m = m}) lit safe (forall2_cons {x = v} e (forall2_cons {x = w} h forall2_nil)) = or-fits v w n m e h
-fn_value-fits (of_add_floats {f = f} {g = g} {n = n} {m = m} s) lit safe (forall2_cons {x = v} e (forall2_cons {x = w} h forall2_nil)) = float_sum-fits f g v w n m s e h
-fn_value-fits (of_add_decimals {p = p} {s = a} {q = q} {r = b} {n = n} {m = m} s) lit safe (forall2_cons {x = v} e (forall2_cons {x = w} h forall2_nil)) = decimal_sum-fits p a q b v w n m e h safe
-fn_value-fits (of_add {p = p} {q = q} {n = n} {m = m} s) lit safe (forall2_cons {x = v} e (forall2_cons {x = w} h forall2_nil)) = sum-fits p q v w n m e h safe
+fn_value-fits (of_float_arithmetic {a = c} {f = f} {g = g} {n = n} {m = m} k s) lit safe (forall2_cons {x = v} e (forall2_cons {x = w} h forall2_nil)) = float-fits c f g v w n m k s e h
+fn_value-fits (of_decimal_arithmetic {a = c} {p = p} {s = a} {q = q} {r = b} {n = n} {m = m} k s) lit safe (forall2_cons {x = v} e (forall2_cons {x = w} h forall2_nil)) = decimal-fits c p a q b v w n m e h safe
+fn_value-fits (of_arithmetic {a = c} {p = p} {q = q} {n = n} {m = m} s) lit safe (forall2_cons {x = v} e (forall2_cons {x = w} h forall2_nil)) = whole-fits c p q v w n m e h safe
 fn_value-fits (of_not {n = n}) lit safe (forall2_cons {x = v} e forall2_nil) = not-fits v n e
 fn_value-fits (of_between {ls = ls} {us = us} {p = p} {q = q} {r = r} {n = n} {m = m} {k = k} s x) lit safe (forall2_cons {x = v} e (forall2_cons {x = l} h (forall2_cons {x = u} d forall2_nil))) = between-fits ls us v l u p q r n m k e h d
 fn_value-fits (of_like {neg = neg} {ci = ci} {n = n} {m = m}) lit safe (forall2_cons {x = v} e (forall2_cons {x = w} h forall2_nil)) = like-fits neg ci v w n m e h

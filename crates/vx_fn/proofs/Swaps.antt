@@ -1,18 +1,22 @@
 -- Operations over exchanged operands.
-use Rattle.std.proofs.Common.{◌≡◌, true, false, ◌||◌, ◌&&◌, if◌then◌else◌, Some, None, refl, ap, ◌∙◌}
+use Rattle.std.proofs.Common.{◌≡◌, ℤ, true, false, ◌||◌, ◌&&◌, if◌then◌else◌, Some, None, IfSome, refl, ap, ◌∙◌}
 use Rattle.std.specs.declared.cmp.Ordering.{Ordering}
 use Rattle.std.specs.declared.cmp.Ordering.TheVariants.{Less, Equal, Greater}
 use Rattle.std.specs.Cmp.{bool_cmp_total}
 use Rattle.std.specs.Ordering.{ordering_reverse}
 use Rattle.std.proofs.lemmas.Cmp.{int_cmp_total, nat_list_cmp_total}
 use Rattle.std.proofs.Math.Bool.{or_comm, and_comm}
-use Rattle.std.proofs.Math.IntN.{+ℤ_comm}
+use Rattle.std.proofs.Math.IntN.{+ℤ_comm, *ℤ_comm}
 use Rattle.vx_floats.proofs.Orders.{float_order-turned}
-use Rattle.vx_floats.proofs.Sums.{float_sum-turned}
+use Rattle.vx_floats.proofs.Sums.{float_sum-turned, float_product-turned}
+use Rattle.vx_floats.specs.declared.arithmetic.Arithmetic.{Arithmetic}
+use Rattle.vx_floats.specs.declared.arithmetic.Arithmetic.TheVariants.{Sum, Difference, Product, Quotient, Remainder}
+use Rattle.vx_floats.specs.declared.float.Float.{Float}
+use Rattle.vx_floats.specs.Floats.{float_result}
 use Rattle.vx_value.specs.Types.{Datum, null, bool, int, float, utf8, bytes, list_of, struct_of, is_null_datum}
-use Rattle.vx_fn.specs.Functions.{Comparison, equal, not_equal, greater, greater_or_equal, less, less_or_equal, mirrored, compares, and_also, or_else, adds}
+use Rattle.vx_fn.specs.Functions.{Comparison, equal, not_equal, greater, greater_or_equal, less, less_or_equal, mirrored, compares, and_also, or_else, computes}
 use Rattle.vx_fn.specs.Laws.{SwappedOverExchangedOperands}
-use Rattle.vx_fn.specs.Values.{is_true, is_false, kleene_and, kleene_or, order, agrees, compared, sum_of}
+use Rattle.vx_fn.specs.Values.{is_true, is_false, kleene_and, kleene_or, order, agrees, compared, whole_result, computed}
 
 pub order-turned : (v w : Datum) → order v w ≡ ordering_reverse (order w v)
 order-turned (bool a) (bool b) = bool_cmp_total.antisymm a b
@@ -61,20 +65,24 @@ kleene_or-turned v w =
     ap (λ b. if b then bool true else if is_false v && is_false w then bool false else null) (or_comm (is_true v) (is_true w))
     ∙ ap (λ b. if is_true w || is_true v then bool true else if b then bool false else null) (and_comm (is_false v) (is_false w))
 
-sum_of-turned : (v w : Datum) → sum_of v w ≡ sum_of w v
-sum_of-turned (int i) (int j) = ap int (+ℤ_comm i j)
-sum_of-turned (float x) (float y) = ap (λ z. elim z [ Some s ↦ float s | None ↦ null ]) (float_sum-turned x y)
-sum_of-turned (float x) null = refl
-sum_of-turned null null = refl
-sum_of-turned (bool a) null = refl
-sum_of-turned (utf8 s) null = refl
-sum_of-turned (bytes s) null = refl
-sum_of-turned (list_of vs) null = refl
-sum_of-turned (struct_of vs) null = refl
-sum_of-turned _ _ = refl
+computed-turned : (a : Arithmetic) → ((i j : ℤ) → whole_result a i j ≡ whole_result a j i) → ((x y : Float) → float_result a x y ≡ float_result a y x) → (v w : Datum) → computed a v w ≡ computed a w v
+computed-turned a whole floats (int i) (int j) = ap int (whole i j)
+computed-turned a whole floats (float x) (float y) = ap (λ z. elim z [ Some s ↦ float s | None ↦ null ]) (floats x y)
+computed-turned a whole floats (float x) null = refl
+computed-turned a whole floats null null = refl
+computed-turned a whole floats (bool b) null = refl
+computed-turned a whole floats (utf8 s) null = refl
+computed-turned a whole floats (bytes s) null = refl
+computed-turned a whole floats (list_of vs) null = refl
+computed-turned a whole floats (struct_of vs) null = refl
+computed-turned a whole floats _ _ = refl
 
 pub swapped_over_exchanged_operands : SwappedOverExchangedOperands
 swapped_over_exchanged_operands (compares c) v w = compared-turned c v w
 swapped_over_exchanged_operands and_also v w = kleene_and-turned v w
 swapped_over_exchanged_operands or_else v w = kleene_or-turned v w
-swapped_over_exchanged_operands adds v w = sum_of-turned v w
+swapped_over_exchanged_operands (computes Sum) v w = computed-turned Sum +ℤ_comm float_sum-turned v w
+swapped_over_exchanged_operands (computes Product) v w = computed-turned Product *ℤ_comm float_product-turned v w
+swapped_over_exchanged_operands (computes Difference) v w = tt
+swapped_over_exchanged_operands (computes Quotient) v w = tt
+swapped_over_exchanged_operands (computes Remainder) v w = tt

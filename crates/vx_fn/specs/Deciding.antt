@@ -3,15 +3,17 @@ use Rattle.std.specs.Prelude.{◌≡◌, ◌==◌, List, refl}
 use Rattle.std.specs.Bool.{Decides}
 use Rattle.std.specs.Cmp.{IsEquivalence, booleans_Decides}
 use Rattle.std.specs.Hash.{Alike, same_Alike}
-use Rattle.std.proofs.Common.{ap}
+use Rattle.std.proofs.Common.{ap, sym}
 use Rattle.std.proofs.lemmas.Slice.Eq.{bytes_eq-Decides, slice_eq-Decides}
 use Rattle.std.proofs.lemmas.Bool.Decides.{Decides-eqb, Decides-and, Decides-like}
 use Rattle.vx_value.specs.Deciding.{apart, itself, equivalence_of, equal_type-Decides, equal_datum-Decides}
+use Rattle.vx_floats.specs.declared.arithmetic.Arithmetic.{Arithmetic}
+use Rattle.vx_floats.specs.declared.arithmetic.Arithmetic.TheVariants.{Sum, Difference, Product, Quotient, Remainder}
 use Rattle.vx_value.specs.Types.{Name}
 use Rattle.vx_fn.specs.declared.options.FieldSelection.{FieldSelection}
 use Rattle.vx_fn.specs.declared.options.FieldSelection.TheVariants.{Include, Exclude}
 use Rattle.vx_fn.specs.Equality.{operation_index, equal_names, equal_selection, equal_function, function_fed}
-use Rattle.vx_fn.specs.Functions.{Comparison, equal, not_equal, greater, greater_or_equal, less, less_or_equal, Operation, compares, and_also, or_else, adds, Function, case_when, get_item, literal, pack, select, fill_null, zip, binary, logical_not, between, like, is_null, is_not_null, mask, cast}
+use Rattle.vx_fn.specs.Functions.{Comparison, equal, not_equal, greater, greater_or_equal, less, less_or_equal, Operation, compares, and_also, or_else, computes, Function, case_when, get_item, literal, pack, select, fill_null, zip, binary, logical_not, between, like, is_null, is_not_null, mask, cast}
 
 -- comparisons of one place are one
 comparison_inj : (c d : Comparison) → operation_index (compares c) ≡ operation_index (compares d) → c ≡ d
@@ -23,12 +25,32 @@ comparison_inj less less e = refl
 comparison_inj less_or_equal less_or_equal e = refl
 comparison_inj _ _ e = cc
 
+-- so is arithmetic of one place
+arithmetic_inj : (a b : Arithmetic) → operation_index (computes a) ≡ operation_index (computes b) → a ≡ b
+arithmetic_inj Sum Sum e = refl
+arithmetic_inj Difference Difference e = refl
+arithmetic_inj Product Product e = refl
+arithmetic_inj Quotient Quotient e = refl
+arithmetic_inj Remainder Remainder e = refl
+arithmetic_inj _ _ e = cc
+
+-- a comparison and arithmetic have other places
+kinds_apart : (a : Arithmetic) (c : Comparison) → operation_index (compares c) ≡ operation_index (computes a) → ⊥
+kinds_apart Sum equal e = cc
+kinds_apart Difference equal e = cc
+kinds_apart Product equal e = cc
+kinds_apart Quotient equal e = cc
+kinds_apart Remainder equal e = cc
+kinds_apart _ _ e = cc
+
 -- operations of one place are one
 operation_inj : (c d : Operation) → operation_index c ≡ operation_index d → c ≡ d
 operation_inj (compares c) (compares d) e = ap compares (comparison_inj c d e)
+operation_inj (computes a) (computes b) e = ap computes (arithmetic_inj a b e)
 operation_inj and_also and_also e = refl
 operation_inj or_else or_else e = refl
-operation_inj adds adds e = refl
+operation_inj (compares c) (computes a) e = absurd (kinds_apart a c e)
+operation_inj (computes a) (compares c) e = absurd (kinds_apart a c (sym e))
 operation_inj (compares equal) _ e = cc
 operation_inj (compares not_equal) _ e = cc
 operation_inj (compares greater) _ e = cc
@@ -41,6 +63,16 @@ operation_inj _ (compares greater) e = cc
 operation_inj _ (compares greater_or_equal) e = cc
 operation_inj _ (compares less) e = cc
 operation_inj _ (compares less_or_equal) e = cc
+operation_inj (computes Sum) _ e = cc
+operation_inj (computes Difference) _ e = cc
+operation_inj (computes Product) _ e = cc
+operation_inj (computes Quotient) _ e = cc
+operation_inj (computes Remainder) _ e = cc
+operation_inj _ (computes Sum) e = cc
+operation_inj _ (computes Difference) e = cc
+operation_inj _ (computes Product) e = cc
+operation_inj _ (computes Quotient) e = cc
+operation_inj _ (computes Remainder) e = cc
 operation_inj _ _ e = cc
 
 -- the test of places decides `≡` of operations

@@ -5,14 +5,15 @@ use Rattle.std.specs.Cmp.Lexicographic.{pointwise}
 use Rattle.std.specs.Hash.{HashWrites}
 use Rattle.std.specs.Hash as fed
 use Rattle.std.specs.Str.{bytes_eq}
+use Rattle.vx_floats.specs.declared.arithmetic.Arithmetic.TheVariants.{Sum, Difference, Product, Quotient, Remainder}
 use Rattle.vx_value.specs.Types.{Name}
 use Rattle.vx_value.specs.Equality.{equal_type, equal_datum}
 use Rattle.vx_value.specs.Hashes.{type_fed, datum_fed}
 use Rattle.vx_fn.specs.declared.options.FieldSelection.{FieldSelection}
 use Rattle.vx_fn.specs.declared.options.FieldSelection.TheVariants.{Include, Exclude}
-use Rattle.vx_fn.specs.Functions.{equal, not_equal, greater, greater_or_equal, less, less_or_equal, Operation, compares, and_also, or_else, adds, Function, case_when, get_item, literal, pack, select, fill_null, zip, binary, logical_not, between, like, is_null, is_not_null, mask, cast}
+use Rattle.vx_fn.specs.Functions.{equal, not_equal, greater, greater_or_equal, less, less_or_equal, Operation, compares, and_also, or_else, computes, Function, case_when, get_item, literal, pack, select, fill_null, zip, binary, logical_not, between, like, is_null, is_not_null, mask, cast}
 
--- the operation's place among the nine
+-- the operation's place among the thirteen
 abbrev pub operation_index : Operation → ℕ
 operation_index (compares equal) = 0
 operation_index (compares not_equal) = 1
@@ -22,7 +23,11 @@ operation_index (compares less) = 4
 operation_index (compares less_or_equal) = 5
 operation_index and_also = 6
 operation_index or_else = 7
-operation_index adds = 8
+operation_index (computes Sum) = 8
+operation_index (computes Difference) = 9
+operation_index (computes Product) = 10
+operation_index (computes Quotient) = 11
+operation_index (computes Remainder) = 12
 
 -- whether two lists have the same names in the same order
 abbrev pub equal_names : List Name → List Name → Bool

@@ -4,6 +4,8 @@ use Rattle.std.specs.List.{list_all}
 use Rattle.std.specs.Result.{result_map_both}
 use Rattle.vx_dtype.specs.declared.error.VortexError.{VortexError}
 use Rattle.vx_dtype.specs.declared.error.VortexError.TheVariants.{ArityMismatch, NotAStruct, NoSuchField, BaseTypesDiffer, NotBool, NotComparable, NotNumeric, NotText, NoPairs}
+use Rattle.vx_floats.specs.declared.arithmetic.Arithmetic.{Arithmetic}
+use Rattle.vx_floats.specs.declared.arithmetic.Arithmetic.TheVariants.{Sum, Difference, Product, Remainder}
 use Rattle.vx_fn.specs.declared.options.FieldSelection.{FieldSelection}
 use Rattle.vx_value.specs.Returns.{known_or}
 use Rattle.vx_value.specs.Types.{Name, truth, number, floating, decimals, text, LogicalType, ty, atomic, struct, Fields, Datum, is_nullable, with_nullability}
@@ -27,7 +29,7 @@ pub data Operation : Type 0 where
   compares : Comparison → Operation
   and_also : Operation
   or_else : Operation
-  adds : Operation
+  computes : Arithmetic → Operation
 
 -- a function with its options
 pub data Function : Type 0 where
@@ -56,12 +58,18 @@ mirrored less_or_equal = greater_or_equal
 mirrored equal = equal
 mirrored not_equal = not_equal
 
--- the operation for exchanged operands
-abbrev pub swapped : Operation → Operation
-swapped (compares c) = compares (mirrored c)
-swapped and_also = and_also
-swapped or_else = or_else
-swapped adds = adds
+-- whether the arithmetic gives the same over exchanged operands
+abbrev pub is_symmetric : Arithmetic → Bool
+is_symmetric Sum = true
+is_symmetric Product = true
+is_symmetric _ = false
+
+-- the operation for exchanged operands, if there is one
+abbrev pub swapped : Operation → Option Operation
+swapped (compares c) = Some (compares (mirrored c))
+swapped and_also = Some and_also
+swapped or_else = Some or_else
+swapped (computes a) = if is_symmetric a then Some (computes a) else None
 
 -- a literal's value is one of its type
 abbrev pub HasFittingLiteral : Function → Type 0
@@ -113,12 +121,31 @@ abbrev pub is_text : LogicalType → Bool
 is_text (ty (atomic text) n) = true
 is_text _ = false
 
--- whether the type's values are added: Primitive, Float or Decimal
+-- whether the type's values are numbers: Primitive, Float or Decimal
 abbrev pub is_number : LogicalType → Bool
 is_number (ty (atomic (number p)) n) = true
 is_number (ty (atomic (floating f)) n) = true
 is_number (ty (atomic (decimals p s)) n) = true
 is_number _ = false
+
+-- whether the arithmetic adds or subtracts
+abbrev pub is_additive : Arithmetic → Bool
+is_additive Sum = true
+is_additive Difference = true
+is_additive _ = false
+
+-- whether the arithmetic is the remainder
+abbrev pub is_remainder : Arithmetic → Bool
+is_remainder Remainder = true
+is_remainder _ = false
+
+-- whether the arithmetic takes values of the type: numbers, but of floating-point numbers no remainder, and decimals where it adds or
+-- subtracts alone
+abbrev pub is_number_for : Arithmetic → LogicalType → Bool
+is_number_for a (ty (atomic (number p)) n) = true
+is_number_for a (ty (atomic (floating f)) n) = not (is_remainder a)
+is_number_for a (ty (atomic (decimals p s)) n) = is_additive a
+is_number_for a _ = false
 
 -- whether the type is neither a list's nor a struct's
 abbrev pub is_atomic : LogicalType → Bool
@@ -207,16 +234,16 @@ comparison_type t u =
 abbrev pub logic_type : LogicalType → LogicalType → Typing
 logic_type t u = needs (is_truth t && is_truth u) NotBool (Ok (truth_type (is_nullable t || is_nullable u)))
 
--- the row of a sum
-abbrev pub sum_type : LogicalType → LogicalType → Typing
-sum_type t u =
-    needs (is_number t && is_number u) NotNumeric
+-- the row of arithmetic
+abbrev pub arithmetic_type : Arithmetic → LogicalType → LogicalType → Typing
+arithmetic_type a t u =
+    needs (is_number_for a t && is_number_for a u) NotNumeric
     (needs (same_base t u) BaseTypesDiffer (Ok (with_nullability (is_nullable t || is_nullable u) t)))
 
 -- the row of each binary function
 abbrev pub binary_type : Operation → LogicalType → LogicalType → Typing
 binary_type (compares c) = comparison_type
-binary_type adds = sum_type
+binary_type (computes a) = arithmetic_type a
 binary_type _ = logic_type
 
 -- the row of a fill

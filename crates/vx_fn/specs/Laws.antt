@@ -1,5 +1,5 @@
 -- What typing and operators promise.
-use Rattle.std.specs.Prelude.{ℕ, Bool, true, List, ◌≡◌, ◌↔◌, Ok}
+use Rattle.std.specs.Prelude.{ℕ, Bool, true, List, ◌≡◌, ◌↔◌, Ok, IfSome}
 use Rattle.vx_value.specs.Types.{LogicalType, Datum}
 use Rattle.vx_value.specs.Joins.{Narrower, NarrowerEach}
 use Rattle.vx_fn.specs.Functions.{Function, fn_type, Operation, swapped}
@@ -15,9 +15,9 @@ abbrev pub TypingIsMonotone : Type 0
 TypingIsMonotone = (f : Function) (ts us : List LogicalType) (u : LogicalType) → NarrowerEach ts us → fn_type f us ≡ Ok u →
     (t : LogicalType) × (fn_type f ts ≡ Ok t) × Narrower t u
 
--- the swapped operation gives over operands what the operation gives over them exchanged
+-- the swapped operation, if there is one, gives over operands what the operation gives over them exchanged
 abbrev pub SwappedOverExchangedOperands : Type 0
-SwappedOverExchangedOperands = (op : Operation) (v w : Datum) → binary_value (swapped op) v w ≡ binary_value op w v
+SwappedOverExchangedOperands = (op : Operation) (v w : Datum) → IfSome (swapped op) (λ other. binary_value other v w ≡ binary_value op w v)
 
 -- the test by search and the relation by cuts are one
 abbrev pub MatchesIsDecided : Type 0

@@ -1,13 +1,14 @@
 -- The texts of functions: with their options, as a node of a tree text, and as SQL over their children's texts.
 use Rattle.std.specs.Prelude.{ℕ, Bool, true, false, List, [], ◌∷◌, ◌++◌, ◌==◌, codes, get_or, length, if◌then◌else◌}
 use Rattle.std.specs.Fmt.{decimal}
+use Rattle.vx_floats.specs.declared.arithmetic.Arithmetic.TheVariants.{Sum, Difference, Product, Quotient, Remainder}
 use Rattle.vx_value.specs.Types.{Name}
 use Rattle.vx_value.specs.Texts.{mark, type_text}
 pub use Rattle.vx_value.specs.Texts.{with_commas}
 use Rattle.vx_value.specs.ValueTexts.{value_text}
 use Rattle.vx_fn.specs.declared.options.FieldSelection.{FieldSelection}
 use Rattle.vx_fn.specs.declared.options.FieldSelection.TheVariants.{Include, Exclude}
-use Rattle.vx_fn.specs.Functions.{equal, not_equal, greater, greater_or_equal, less, less_or_equal, Operation, compares, and_also, or_else, adds, Function, case_when, get_item, literal, pack, select, zip, binary, between, like, cast, arity_of, id_of}
+use Rattle.vx_fn.specs.Functions.{equal, not_equal, greater, greater_or_equal, less, less_or_equal, Operation, compares, and_also, or_else, computes, Function, case_when, get_item, literal, pack, select, zip, binary, between, like, cast, arity_of, id_of}
 
 -- ---- options
 
@@ -21,7 +22,11 @@ operation_text (compares less) = codes "<"
 operation_text (compares less_or_equal) = codes "<="
 operation_text and_also = codes "and"
 operation_text or_else = codes "or"
-operation_text adds = codes "+"
+operation_text (computes Sum) = codes "+"
+operation_text (computes Difference) = codes "-"
+operation_text (computes Product) = codes "*"
+operation_text (computes Quotient) = codes "/"
+operation_text (computes Remainder) = codes "%"
 
 -- the sign of a bound: `<` where it is strict
 abbrev pub bound_text : Bool → List ℕ

@@ -1,14 +1,16 @@
 -- The value of a function node at one row, from its children's values.
-use Rattle.std.specs.Prelude.{◌≡◌, ◌++◌, ℕ, Bool, true, false, ◌&&◌, ◌||◌, ◌==◌, not, List, [], ◌∷◌, Some, None, ◌+ℤ◌, if◌then◌else◌, map, chars}
+use Rattle.std.specs.Prelude.{◌≡◌, ◌++◌, ℕ, Bool, true, false, ◌&&◌, ◌||◌, ◌==◌, not, List, [], ◌∷◌, Some, None, ℤ, ◌+ℤ◌, ◌-ℤ◌, ◌*ℤ◌, int_div, int_rem, if◌then◌else◌, map, chars}
 use Rattle.std.specs.declared.cmp.Ordering.{Ordering}
 use Rattle.std.specs.declared.cmp.Ordering.TheVariants.{Equal}
 use Rattle.std.specs.Ordering.{is_lt, is_le, is_gt, is_ge, is_eq, is_ne, nat_cmp, int_cmp, bool_cmp}
 use Rattle.std.specs.Char.{to_ascii_lowercase}
 use Rattle.std.specs.Cmp.Lexicographic.{slice_cmp}
-use Rattle.vx_floats.specs.Floats.{float_order, float_sum}
+use Rattle.vx_floats.specs.Floats.{float_order, float_result}
+use Rattle.vx_floats.specs.declared.arithmetic.Arithmetic.{Arithmetic}
+use Rattle.vx_floats.specs.declared.arithmetic.Arithmetic.TheVariants.{Sum, Difference, Product, Quotient, Remainder}
 use Rattle.vx_value.specs.Types.{Name, LogicalType, ty, struct, Datum, null, bool, int, float, utf8, bytes, struct_of, is_null_datum}
 use Rattle.vx_value.specs.Fields.{field_value, project_values, data_of}
-use Rattle.vx_fn.specs.Functions.{Function, case_when, get_item, literal, pack, select, fill_null, zip, binary, logical_not, between, like, is_null, is_not_null, mask, cast, Operation, compares, and_also, or_else, adds, Comparison, equal, not_equal, greater, greater_or_equal, less, less_or_equal, included}
+use Rattle.vx_fn.specs.Functions.{Function, case_when, get_item, literal, pack, select, fill_null, zip, binary, logical_not, between, like, is_null, is_not_null, mask, cast, Operation, compares, and_also, or_else, computes, Comparison, equal, not_equal, greater, greater_or_equal, less, less_or_equal, included}
 use Rattle.vx_fn.specs.declared.options.FieldSelection.{FieldSelection}
 
 -- whether the value is true
@@ -62,11 +64,20 @@ compared c v w = if is_null_datum v || is_null_datum w then null else bool (agre
 abbrev pub bound_comparison : Bool → Comparison
 bound_comparison strict = if strict then less else less_or_equal
 
--- the sum of two numbers, or null
-abbrev pub sum_of : Datum → Datum → Datum
-sum_of (int i) (int j) = int (i +ℤ j)
-sum_of (float x) (float y) = elim (float_sum x y) [ Some z ↦ float z | None ↦ null ]
-sum_of _ _ = null
+-- the arithmetic on whole numbers: the quotient is cut towards zero, and the remainder has the sign of the first. What both are by zero
+-- no row shows, since it faults
+abbrev pub whole_result : Arithmetic → ℤ → ℤ → ℤ
+whole_result Sum i j = i +ℤ j
+whole_result Difference i j = i -ℤ j
+whole_result Product i j = i *ℤ j
+whole_result Quotient i j = int_div i j
+whole_result Remainder i j = int_rem i j
+
+-- what is computed of two numbers, or null
+abbrev pub computed : Arithmetic → Datum → Datum → Datum
+computed a (int i) (int j) = int (whole_result a i j)
+computed a (float x) (float y) = elim (float_result a x y) [ Some z ↦ float z | None ↦ null ]
+computed a _ _ = null
 
 -- ---- patterns
 
@@ -168,7 +179,7 @@ abbrev pub binary_value : Operation → Datum → Datum → Datum
 binary_value (compares c) = compared c
 binary_value and_also = kleene_and
 binary_value or_else = kleene_or
-binary_value adds = sum_of
+binary_value (computes a) = computed a
 
 -- the value of a function node, from its children's types and values
 abbrev pub fn_value : Function → List LogicalType → List Datum → Datum

@@ -1,13 +1,14 @@
 -- What a `ScalarFnRef` stands for.
 use Rattle.std.specs.Prelude.{Bool, true, false}
 use Rattle.vx_value.specs.Views.{admits_null, type_of}
+use Rattle.vx_floats.specs.declared.arithmetic.Arithmetic.TheVariants.{Sum, Difference, Product, Quotient, Remainder}
 use Rattle.vx_fn.specs.declared.options.Operator.{Operator}
-use Rattle.vx_fn.specs.declared.options.Operator.TheVariants.{Eq, NotEq, Gt, Gte, Lt, Lte, And, Or, Add}
+use Rattle.vx_fn.specs.declared.options.Operator.TheVariants.{Eq, NotEq, Gt, Gte, Lt, Lte, And, Or, Add, Sub, Mul, Div, Rem}
 use Rattle.vx_fn.specs.declared.options.StrictComparison.{StrictComparison}
 use Rattle.vx_fn.specs.declared.options.StrictComparison.TheVariants.{Strict, NonStrict}
 use Rattle.vx_fn.specs.declared.function.ScalarFnRef.{ScalarFnRef}
 use Rattle.vx_fn.specs.declared.function.ScalarFnRef.TheVariants.{CaseWhen, GetItem, Literal, Pack, Select, FillNull, Zip, Binary, Not, Between, Like, IsNull, IsNotNull, Mask, Cast}
-use Rattle.vx_fn.specs.Functions.{Function, case_when, get_item, literal, pack, select, fill_null, zip, binary, logical_not, between, like, is_null, is_not_null, mask, cast, Operation, compares, and_also, or_else, adds, equal, not_equal, greater, greater_or_equal, less, less_or_equal}
+use Rattle.vx_fn.specs.Functions.{Function, case_when, get_item, literal, pack, select, fill_null, zip, binary, logical_not, between, like, is_null, is_not_null, mask, cast, Operation, compares, and_also, or_else, computes, equal, not_equal, greater, greater_or_equal, less, less_or_equal}
 
 -- the operation of an operator
 abbrev pub operation_of : Operator → Operation
@@ -19,7 +20,11 @@ operation_of Lt = compares less
 operation_of Lte = compares less_or_equal
 operation_of And = and_also
 operation_of Or = or_else
-operation_of Add = adds
+operation_of Add = computes Sum
+operation_of Sub = computes Difference
+operation_of Mul = computes Product
+operation_of Div = computes Quotient
+operation_of Rem = computes Remainder
 
 -- whether the bound itself is left out
 abbrev pub is_strict : StrictComparison → Bool

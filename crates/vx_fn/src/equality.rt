@@ -18,7 +18,7 @@ impl StrictComparison {
 }
 
 impl Operator {
-    // The operator's place among the nine.
+    // The operator's place among the thirteen.
     pub(crate) fn index(self) -> u8
         ensures { result ≡ operation_index (operation_of self) }
     {
@@ -32,6 +32,10 @@ impl Operator {
             Operator::And => 6,
             Operator::Or => 7,
             Operator::Add => 8,
+            Operator::Sub => 9,
+            Operator::Mul => 10,
+            Operator::Div => 11,
+            Operator::Rem => 12,
         }
     }
 }

@@ -17,7 +17,7 @@ pub fn matches_is_decided()
     ensures like { LikeIsDecided }
 {}
 
-/// The swapped operator gives the operator's value over exchanged operands.
+/// The swapped operator, if there is one, gives the operator's value over exchanged operands.
 pub fn swapped_over_exchanged_operands()
     ensures { SwappedOverExchangedOperands }
 {}

@@ -1,5 +1,5 @@
 // What a function is told beside its children.
-ghost use Rattle.std.specs.Prelude.{◌≡◌, ℕ, not, option_map, Some};
+ghost use Rattle.std.specs.Prelude.{◌≡◌, ℕ, not, option_map};
 ghost use Rattle.std.specs.List.{IsDistinct};
 ghost use Rattle.std.specs.Str.{bytes_eq};
 
@@ -102,6 +102,14 @@ pub enum Operator {
     Or,
     /// Their sum: `+`.
     Add,
+    /// Their difference: `-`.
+    Sub,
+    /// Their product: `*`.
+    Mul,
+    /// Their quotient, of whole numbers cut towards zero: `/`.
+    Div,
+    /// The remainder of the quotient cut towards zero: `%`.
+    Rem,
 }
 
 impl CaseWhenOptions {
@@ -168,16 +176,22 @@ impl Operator {
     ghost use Rattle.vx_fn.specs.Views.{operation_of};
 
     /// The operator for exchanged operands: `Gt` and `Lt`, and `Gte` and `Lte`, change places, and
-    /// the others stay. Every operator has one.
+    /// the others stay. None of `Sub`, `Div` and `Rem`.
     pub fn swap(self) -> Option<Operator>
-        ensures { option_map operation_of result ≡ Some (swapped (operation_of self)) }
+        ensures { option_map operation_of result ≡ swapped (operation_of self) }
     {
-        Some(match self {
-            Operator::Gt => Operator::Lt,
-            Operator::Gte => Operator::Lte,
-            Operator::Lt => Operator::Gt,
-            Operator::Lte => Operator::Gte,
-            Operator::Eq | Operator::NotEq | Operator::And | Operator::Or | Operator::Add => self,
-        })
+        match self {
+            Operator::Gt => Some(Operator::Lt),
+            Operator::Gte => Some(Operator::Lte),
+            Operator::Lt => Some(Operator::Gt),
+            Operator::Lte => Some(Operator::Gte),
+            Operator::Eq
+            | Operator::NotEq
+            | Operator::And
+            | Operator::Or
+            | Operator::Add
+            | Operator::Mul => Some(self),
+            Operator::Sub | Operator::Div | Operator::Rem => None,
+        }
     }
 }

@@ -141,6 +141,10 @@ impl Display for Operator {
             Operator::And => "and",
             Operator::Or => "or",
             Operator::Add => "+",
+            Operator::Sub => "-",
+            Operator::Mul => "*",
+            Operator::Div => "/",
+            Operator::Rem => "%",
         })
     }
 }

@@ -58,7 +58,8 @@ impl ScalarFnRef {
     /// - `Binary`, a comparison, and `Between`: `NotComparable` (8) at a list or a struct,
     ///   `BaseTypesDiffer` (6).
     /// - `Binary`, And or Or, and `Not`: `NotBool` (7).
-    /// - `Binary`, Add: `NotNumeric` (9), `BaseTypesDiffer` (6).
+    /// - `Binary`, arithmetic: `NotNumeric` (9) at a type of no numbers, at decimals that are neither
+    ///   added nor subtracted, or at the remainder of floats, `BaseTypesDiffer` (6).
     /// - `Like`: `NotText` (10).
     /// - `Mask`: `NotBool` (7) at a mask of another type or a nullable one.
     ///

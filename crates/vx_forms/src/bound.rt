@@ -15,7 +15,8 @@ use crate::names::IntoFieldName;
 pub use crate::nulls::{fill_null, is_not_null, is_null};
 use crate::operands::{Operand, trees_given};
 pub use crate::operators::{
-    and, between, binary, checked_add, eq, gt, gt_eq, lt, lt_eq, not, not_eq, or,
+    and, between, binary, checked_add, checked_div, checked_mul, checked_rem, checked_sub, eq, gt,
+    gt_eq, lt, lt_eq, not, not_eq, or,
 };
 use crate::scalars::IntoScalar;
 pub use crate::texts::{ilike, like, not_ilike, not_like};

@@ -33,7 +33,10 @@ pub use names::{IntoFieldName, IntoFieldNames};
 pub use native::Native;
 pub use nulls::{fill_null, is_not_null, is_null};
 pub use operands::Operand;
-pub use operators::{and, between, binary, checked_add, eq, gt, gt_eq, lt, lt_eq, not, not_eq, or};
+pub use operators::{
+    and, between, binary, checked_add, checked_div, checked_mul, checked_rem, checked_sub, eq, gt,
+    gt_eq, lt, lt_eq, not, not_eq, or,
+};
 pub use paths::field;
 pub use replacing::replace_nodes;
 pub use scalars::{IntoScalar, scalar, struct_row};

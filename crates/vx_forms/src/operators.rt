@@ -1,6 +1,7 @@
-// Comparisons, logic and sums over operands.
+// Comparisons, logic and arithmetic over operands.
 ghost use Rattle.std.specs.Prelude.{[], ◌∷◌};
-ghost use Rattle.vx_fn.specs.Functions.{binary, logical_not, between, compares, equal, not_equal, greater, greater_or_equal, less, less_or_equal, and_also, or_else, adds};
+ghost use Rattle.vx_fn.specs.Functions.{binary, logical_not, between, compares, equal, not_equal, greater, greater_or_equal, less, less_or_equal, and_also, or_else, computes};
+ghost use Rattle.vx_floats.specs.declared.arithmetic.Arithmetic.TheVariants.{Sum, Difference, Product, Quotient, Remainder};
 ghost use Rattle.vx_fn.specs.Views.{operation_of, is_strict};
 ghost use Rattle.vx_forms.specs.Given.{GivesOver};
 
@@ -134,9 +135,61 @@ pub fn checked_add<T: TreeNode, L: Operand<T>, R: Operand<T>>(
     lhs: L,
     rhs: R,
 ) -> VortexResult<T>
-    ensures { GivesOver T.seen (T.over (binary adds)) (L.given lhs ∷ R.given rhs ∷ []) result }
+    ensures { GivesOver T.seen (T.over (binary (computes Sum))) (L.given lhs ∷ R.given rhs ∷ []) result }
 {
     binary(alloc, Operator::Add, lhs, rhs)
+}
+
+/// The left operand minus the right one. Refuses as the first operand that was refused, else over
+/// sources with `OutOfMemory` (1) alone, over bound trees as the node does: `NotNumeric` (9),
+/// `BaseTypesDiffer` (6).
+pub fn checked_sub<T: TreeNode, L: Operand<T>, R: Operand<T>>(
+    alloc: Global,
+    lhs: L,
+    rhs: R,
+) -> VortexResult<T>
+    ensures { GivesOver T.seen (T.over (binary (computes Difference))) (L.given lhs ∷ R.given rhs ∷ []) result }
+{
+    binary(alloc, Operator::Sub, lhs, rhs)
+}
+
+/// The product of the operands. Refuses as the first operand that was refused, else over sources
+/// with `OutOfMemory` (1) alone, over bound trees as the node does: `NotNumeric` (9), also of
+/// decimals, `BaseTypesDiffer` (6).
+pub fn checked_mul<T: TreeNode, L: Operand<T>, R: Operand<T>>(
+    alloc: Global,
+    lhs: L,
+    rhs: R,
+) -> VortexResult<T>
+    ensures { GivesOver T.seen (T.over (binary (computes Product))) (L.given lhs ∷ R.given rhs ∷ []) result }
+{
+    binary(alloc, Operator::Mul, lhs, rhs)
+}
+
+/// The left operand by the right one, of whole numbers cut towards zero. Refuses as the first
+/// operand that was refused, else over sources with `OutOfMemory` (1) alone, over bound trees as
+/// the node does: `NotNumeric` (9), also of decimals, `BaseTypesDiffer` (6).
+pub fn checked_div<T: TreeNode, L: Operand<T>, R: Operand<T>>(
+    alloc: Global,
+    lhs: L,
+    rhs: R,
+) -> VortexResult<T>
+    ensures { GivesOver T.seen (T.over (binary (computes Quotient))) (L.given lhs ∷ R.given rhs ∷ []) result }
+{
+    binary(alloc, Operator::Div, lhs, rhs)
+}
+
+/// The remainder of the left operand by the right one, with the left one's sign. Refuses as the
+/// first operand that was refused, else over sources with `OutOfMemory` (1) alone, over bound trees
+/// as the node does: `NotNumeric` (9), also of decimals and floats, `BaseTypesDiffer` (6).
+pub fn checked_rem<T: TreeNode, L: Operand<T>, R: Operand<T>>(
+    alloc: Global,
+    lhs: L,
+    rhs: R,
+) -> VortexResult<T>
+    ensures { GivesOver T.seen (T.over (binary (computes Remainder))) (L.given lhs ∷ R.given rhs ∷ []) result }
+{
+    binary(alloc, Operator::Rem, lhs, rhs)
 }
 
 /// The other truth value, null for null. Refuses as the first operand that was refused, else over

@@ -8,7 +8,7 @@ use Rattle.vx_dtype.specs.declared.error.VortexError.TheVariants.{OutOfMemory}
 use Rattle.vx_value.specs.Columns.{Batch, batch}
 use Rattle.vx_value.specs.Types.{LogicalType, Datum}
 use Rattle.vx_fn.specs.Faults.{node_fault}
-use Rattle.vx_fn.specs.Functions.{Function, case_when, get_item, literal, pack, select, fill_null, zip, binary, logical_not, between, like, is_null, is_not_null, mask, cast, compares, and_also, or_else, adds}
+use Rattle.vx_fn.specs.Functions.{Function, case_when, get_item, literal, pack, select, fill_null, zip, binary, logical_not, between, like, is_null, is_not_null, mask, cast, compares, and_also, or_else, computes}
 use Rattle.vx_tree.specs.Faults.{HasNoFault, first_fault, each_fault}
 use Rattle.vx_tree.specs.Meaning.{mean, value}
 use Rattle.vx_tree.specs.Nodes.{bound_children_of, function_at}
@@ -87,7 +87,7 @@ never_faults zip ts rows h = refl
 never_faults (binary (compares c)) ts rows h = refl
 never_faults (binary and_also) ts rows h = refl
 never_faults (binary or_else) ts rows h = refl
-never_faults (binary adds) ts rows h = cc
+never_faults (binary (computes a)) ts rows h = cc
 never_faults logical_not ts rows h = refl
 never_faults (between ls us) ts rows h = refl
 never_faults (like negated case_insensitive) ts rows h = refl

@@ -1,7 +1,7 @@
 -- The node at a place of a tree.
 use Rattle.std.specs.Prelude.{ℕ, List, [], ◌∷◌, Option, Some, None, option_and_then}
 use Rattle.vx_dtype.specs.declared.error.VortexError.{VortexError}
-use Rattle.vx_dtype.specs.declared.error.VortexError.TheVariants.{AddOverflow, CastNull, RowMisfit}
+use Rattle.vx_dtype.specs.declared.error.VortexError.TheVariants.{AddOverflow, CastNull, RowMisfit, DivisionByZero}
 use Rattle.vx_tree.specs.Nodes.{children_of, tree_at}
 use Rattle.vx_tree.specs.Trees.{Tree}
 
@@ -15,4 +15,5 @@ abbrev pub row_of : VortexError → Option ℕ
 row_of (AddOverflow row) = Some row
 row_of (CastNull row) = Some row
 row_of (RowMisfit row) = Some row
+row_of (DivisionByZero row) = Some row
 row_of _ = None

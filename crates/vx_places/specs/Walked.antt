@@ -5,7 +5,7 @@ use Rattle.vx_dtype.specs.declared.error.VortexError.TheVariants.{OutOfMemory}
 use Rattle.vx_value.specs.Columns.{Batch, batch}
 use Rattle.vx_value.specs.Types.{Datum}
 use Rattle.vx_fn.specs.Faults.{node_fault}
-use Rattle.vx_fn.specs.Functions.{Function, binary, adds, cast, fill_null}
+use Rattle.vx_fn.specs.Functions.{Function, binary, computes, cast, fill_null}
 use Rattle.vx_tree.specs.Faults.{HasNoFault}
 use Rattle.vx_tree.specs.Meaning.{value, values}
 use Rattle.vx_places.specs.declared.place.Place.{Place}
@@ -25,7 +25,7 @@ LeadsBelow IsPlace old result new = MatchResult result (λ _. new ≡ old) (λ e
 
 -- whether a node of the function may fault
 abbrev pub may_fault : Function → Bool
-may_fault (binary adds) = true
+may_fault (binary (computes a)) = true
 may_fault (cast t) = true
 may_fault fill_null = true
 may_fault _ = false

@@ -23,7 +23,8 @@ impl Place {
         match &self.refusal {
             VortexError::AddOverflow { row }
             | VortexError::CastNull { row }
-            | VortexError::RowMisfit { row } => Some(*row),
+            | VortexError::RowMisfit { row }
+            | VortexError::DivisionByZero { row } => Some(*row),
             _ => None,
         }
     }

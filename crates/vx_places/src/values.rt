@@ -73,6 +73,9 @@ fn may_fault(scalar_fn: &ScalarFnRef) -> bool
 {
     matches!(
         scalar_fn,
-        ScalarFnRef::Binary(Operator::Add) | ScalarFnRef::Cast(_) | ScalarFnRef::FillNull(_)
+        ScalarFnRef::Binary(
+            Operator::Add | Operator::Sub | Operator::Mul | Operator::Div | Operator::Rem
+        ) | ScalarFnRef::Cast(_)
+            | ScalarFnRef::FillNull(_)
     )
 }

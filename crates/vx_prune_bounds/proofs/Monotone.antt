@@ -5,13 +5,15 @@ use Rattle.std.proofs.lemmas.Bool.{and_parts, and_from, or_left, or_right}
 use Rattle.std.proofs.lemmas.Int.{ints}
 use Rattle.vx_dtype.specs.Lists.{Forall2, forall2_nil, forall2_cons}
 use Rattle.vx_value.specs.Types.{Datum, null, bool, int, float}
-use Rattle.vx_fn.specs.Functions.{Operation, compares, and_also, or_else, adds, Comparison, equal, not_equal, greater, greater_or_equal, less, less_or_equal}
+use Rattle.vx_floats.specs.declared.arithmetic.Arithmetic.{Arithmetic}
+use Rattle.vx_floats.specs.declared.arithmetic.Arithmetic.TheVariants.{Sum, Difference, Product, Quotient, Remainder}
+use Rattle.vx_fn.specs.Functions.{Operation, compares, and_also, or_else, computes, Comparison, equal, not_equal, greater, greater_or_equal, less, less_or_equal}
 use Rattle.vx_fn.specs.Values.{bound_comparison}
 use Rattle.vx_prune_bounds.specs.Order.{at_most, below}
 use Rattle.vx_prune_bounds.specs.Bounds.{Bounds, exactly, starts_within, ends_within, IsWithin, of_both, is_interval, IsProper}
 use Rattle.vx_prune_bounds.specs.Truths.{Truths, MayBe, AreWithin, truths_in, truth_bounds, not_truths, and_truths, or_truths, may_fail}
 use Rattle.vx_prune_bounds.specs.Comparing.{both_known, all_at_most, all_below, surely, opposite, comparison_truths, operation_truths, between_truths}
-use Rattle.vx_prune_bounds.specs.Kernels.{nearest_below, nearest_above, of_sum, sum_bounds, only_if, not_null, fill_bounds, choice_bounds, mask_bounds, case_bounds, null_truths, shaped_as}
+use Rattle.vx_prune_bounds.specs.Kernels.{nearest_below, nearest_above, of_sum, sum_bounds, open_bounds, arithmetic_bounds, only_if, not_null, fill_bounds, choice_bounds, mask_bounds, case_bounds, null_truths, shaped_as}
 use Rattle.vx_prune_bounds.proofs.Ordered.{at_most-trans, below-wider}
 use Rattle.vx_prune_bounds.proofs.Contained.{at_either, implied, implies, within, from_within, contains-wider, within-refl, nothing-within, nothing-proper, exactly-proper}
 use Rattle.vx_prune_bounds.proofs.Lattice.{join-mono, join-proper}
@@ -181,7 +183,7 @@ pub operation-mono : (o : Operation) (x x' y y' : Bounds) → IsWithin x x' → 
 operation-mono (compares c) x x' y y' e f = comparison-mono c x x' y y' e f
 operation-mono and_also x x' y y' e f = refl
 operation-mono or_else x x' y y' e f = refl
-operation-mono adds x x' y y' e f = refl
+operation-mono (computes a) x x' y y' e f = refl
 
 pub between-mono : (ls us : Bool) (x x' l l' u u' : Bounds) → IsWithin x x' → IsWithin l l' → IsWithin u u' → AreWithin (between_truths ls us x l u) (between_truths ls us x' l' u')
 between-mono ls us x x' l l' u u' e f g =
@@ -219,7 +221,7 @@ ends-sums g (Some (float c)) h (Some (float d)) e f = refl
 ends-sums g (Some (float c)) h (Some _) e f = refl
 ends-sums g (Some _) h (Some y) e f = refl
 
-pub sum-mono : (x x' y y' : Bounds) → IsWithin x x' → IsWithin y y' → IsWithin (sum_bounds x y) (sum_bounds x' y')
+sum-mono : (x x' y y' : Bounds) → IsWithin x x' → IsWithin y y' → IsWithin (sum_bounds x y) (sum_bounds x' y')
 sum-mono x x' y y' e f =
     let p = within x x' e in
     let q = within y y' f in
@@ -229,6 +231,24 @@ sum-mono x x' y y' e f =
       starts = λ h. let v = and_parts x.value y.value h in starts-sums x.least x'.least y.least y'.least (p.starts v.0) (q.starts v.1);
       ends = λ h. let v = and_parts x.value y.value h in ends-sums x.greatest x'.greatest y.greatest y'.greatest (p.ends v.0) (q.ends v.1);
     })
+
+open-mono : (x x' y y' : Bounds) → IsWithin x x' → IsWithin y y' → IsWithin (open_bounds x y) (open_bounds x' y')
+open-mono x x' y y' e f =
+    let p = within x x' e in
+    let q = within y y' f in
+    from_within (open_bounds x y) (open_bounds x' y') (record {
+      null = λ h. at_either x.null y.null h (λ n. or_left _ _ (p.null n)) (λ n. or_right _ _ (q.null n));
+      value = λ h. let v = and_parts x.value y.value h in and_from _ _ (p.value v.0) (q.value v.1);
+      starts = λ _. refl;
+      ends = λ _. refl;
+    })
+
+pub arithmetic-mono : (a : Arithmetic) (x x' y y' : Bounds) → IsWithin x x' → IsWithin y y' → IsWithin (arithmetic_bounds a x y) (arithmetic_bounds a x' y')
+arithmetic-mono Sum x x' y y' e f = sum-mono x x' y y' e f
+arithmetic-mono Difference x x' y y' e f = open-mono x x' y y' e f
+arithmetic-mono Product x x' y y' e f = open-mono x x' y y' e f
+arithmetic-mono Quotient x x' y y' e f = open-mono x x' y y' e f
+arithmetic-mono Remainder x x' y y' e f = open-mono x x' y y' e f
 
 same_le : (i : ℤ) → i ≤ℤ i
 same_le i = omega (arith, ints)
@@ -261,10 +281,20 @@ sums_interval (Some (float a)) g (Some _) h e f = right_own g h
 sums_interval (Some _) g None h e f = right_own g h
 sums_interval (Some _) g (Some y) h e f = right_own g h
 
-pub sum-proper : (x y : Bounds) → IsProper x → IsProper y → IsProper (sum_bounds x y)
+sum-proper : (x y : Bounds) → IsProper x → IsProper y → IsProper (sum_bounds x y)
 sum-proper x y p q = implied (x.value && y.value) (is_interval (of_both (of_sum nearest_below) x.least y.least) (of_both (of_sum nearest_above) x.greatest y.greatest)) (λ h.
     let v = and_parts x.value y.value h in
     sums_interval x.least x.greatest y.least y.greatest (implies _ _ p v.0) (implies _ _ q v.1))
+
+open-proper : (x y : Bounds) → IsProper (open_bounds x y)
+open-proper x y = implied (x.value && y.value) true (λ _. refl)
+
+pub arithmetic-proper : (a : Arithmetic) (x y : Bounds) → IsProper x → IsProper y → IsProper (arithmetic_bounds a x y)
+arithmetic-proper Sum x y p q = sum-proper x y p q
+arithmetic-proper Difference x y p q = open-proper x y
+arithmetic-proper Product x y p q = open-proper x y
+arithmetic-proper Quotient x y p q = open-proper x y
+arithmetic-proper Remainder x y p q = open-proper x y
 
 -- ---- fills, choices and null
 

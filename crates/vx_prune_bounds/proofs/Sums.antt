@@ -1,21 +1,28 @@
--- Sums of numbers within bounds.
-use Rattle.std.proofs.Common.{◌≡◌, ◌<◌, ◌^◌, ◌-◌, refl, Bool, true, false, ◌&&◌, arith}
+-- What is computed of numbers within bounds.
+use Rattle.std.proofs.Common.{◌≡◌, ◌<◌, ◌^◌, ◌-◌, refl, Bool, true, false, ◌&&◌, not, arith}
 use Rattle.std.specs.Prelude.{ℤ, pos, negsuc, nat_lt, min, ◌+ℤ◌, ◌≤ℤ◌, ◌<ℤ◌, Option, Some, None, if◌then◌else◌, IsTrue}
 use Rattle.std.specs.declared.cmp.Ordering.{Ordering}
 use Rattle.std.specs.declared.cmp.Ordering.TheVariants.{Less, Equal, Greater}
 use Rattle.std.specs.Cmp.{int_ranks}
+use Rattle.std.specs.Float.{Format}
+use Rattle.std.specs.Float as ieee
+use Rattle.std.specs.Float.Ieee.{add, sub, mul, div}
+use Rattle.std.specs.Option.{option_map}
 use Rattle.std.specs.Ordering.{is_le, int_cmp, MatchOrdering}
 use Rattle.std.proofs.lemmas.Bool.{and_from, or_left, or_right, ltb-true}
 use Rattle.std.proofs.lemmas.Int.{ints}
 use borrow.Author.Tests.{lt-ltb}
 use Rattle.vx_dtype.specs.declared.float_type.FloatType.{FloatType}
-use Rattle.vx_floats.specs.Floats.{format_of, is_canonical}
+use Rattle.vx_floats.specs.Floats.{format_of, is_canonical, ieee_result}
+use Rattle.vx_floats.specs.declared.arithmetic.Arithmetic.{Arithmetic}
+use Rattle.vx_floats.specs.declared.arithmetic.Arithmetic.TheVariants.{Sum, Difference, Product, Quotient, Remainder}
 use Rattle.vx_floats.specs.declared.float.Float.{Float}
 use Rattle.vx_value.specs.Fits.{Fits}
 use Rattle.vx_value.specs.Types.{same_float_type, number, floating, decimals, LogicalType, ty, atomic, Datum, null, bool, int, float, utf8, bytes, list_of, struct_of}
-use Rattle.vx_fn.specs.Values.{sum_of}
+use Rattle.vx_fn.specs.Functions.{is_remainder}
+use Rattle.vx_fn.specs.Values.{computed, whole_result}
 use Rattle.vx_prune_bounds.specs.Bounds.{Bounds, is_from, is_up_to, Contains, of_both, starts_within, ends_within, is_interval}
-use Rattle.vx_prune_bounds.specs.Kernels.{nearest_below, nearest_above, of_sum, sum_bounds}
+use Rattle.vx_prune_bounds.specs.Kernels.{nearest_below, nearest_above, of_sum, sum_bounds, open_bounds, arithmetic_bounds}
 use Rattle.vx_prune_bounds.proofs.Contained.{inside, from_inside}
 
 -- ---- numbers in their order
@@ -165,7 +172,7 @@ numeric (ty (atomic (decimals p s)) n) (int i) e f = a_number
 numeric (ty (atomic (decimals p s)) n) _ e f = cc
 numeric _ v e f = cc
 
-pub sum-sound : (x y : Bounds) {v w : Datum} → Numeric v → Numeric w → Contains x v → Contains y w → Contains (sum_bounds x y) (sum_of v w)
+sum-sound : (x y : Bounds) {v w : Datum} → Numeric v → Numeric w → Contains x v → Contains y w → Contains (sum_bounds x y) (computed Sum v w)
 sum-sound x y no_number q h k = or_left x.null y.null h
 sum-sound x y (a_number {i = i}) no_number h k = or_right x.null y.null k
 sum-sound x y (a_number {i = i}) (a_number {i = j}) h k =
@@ -189,14 +196,71 @@ float_parts x y p q z h k =
     })
 
 of_format : (x y : Bounds) (f g : FloatType) (p q : Float) → IsTrue (same_float_type f g) → IsTrue (same_float_type (format_of p) f && is_canonical p) →
-    IsTrue (same_float_type (format_of q) g && is_canonical q) → Contains x (float p) → Contains y (float q) → Contains (sum_bounds x y) (sum_of (float p) (float q))
+    IsTrue (same_float_type (format_of q) g && is_canonical q) → Contains x (float p) → Contains y (float q) → Contains (sum_bounds x y) (computed Sum (float p) (float q))
 of_format x y FloatType.F32 FloatType.F32 (Float.F32 a) (Float.F32 b) s c d h k = float_parts x y (Float.F32 a) (Float.F32 b) _ h k
 of_format x y FloatType.F64 FloatType.F64 (Float.F64 a) (Float.F64 b) s c d h k = float_parts x y (Float.F64 a) (Float.F64 b) _ h k
 of_format _ _ _ _ _ _ s c d h k = cc
 
-pub float_sum-sound : (f g : FloatType) (n m : Bool) (x y : Bounds) (v w : Datum) → IsTrue (same_float_type f g) → Fits v (ty (atomic (floating f)) n) → Fits w (ty (atomic (floating g)) m) →
-    Contains x v → Contains y w → Contains (sum_bounds x y) (sum_of v w)
+float_sum-sound : (f g : FloatType) (n m : Bool) (x y : Bounds) (v w : Datum) → IsTrue (same_float_type f g) → Fits v (ty (atomic (floating f)) n) → Fits w (ty (atomic (floating g)) m) →
+    Contains x v → Contains y w → Contains (sum_bounds x y) (computed Sum v w)
 float_sum-sound f g n m x y null w s c d h k = or_left x.null y.null h
 float_sum-sound f g n m x y (float p) null s c d h k = or_right x.null y.null k
 float_sum-sound f g n m x y (float p) (float q) s c d h k = of_format x y f g p q s c d h k
 float_sum-sound f g n m x y _ _ s c d h k = cc
+
+-- ---- what else is computed
+
+open-sound : (a : Arithmetic) (x y : Bounds) {v w : Datum} → Numeric v → Numeric w → Contains x v → Contains y w → Contains (open_bounds x y) (computed a v w)
+open-sound a x y no_number q h k = or_left x.null y.null h
+open-sound a x y (a_number {i = i}) no_number h k = or_right x.null y.null k
+open-sound a x y (a_number {i = i}) (a_number {i = j}) h k =
+    from_inside (open_bounds x y) (int (whole_result a i j)) refl (record {
+      value = and_from _ _ (inside x (int i) refl h).value (inside y (int j) refl k).value;
+      from = refl;
+      up_to = refl;
+    })
+
+open_parts : (x y : Bounds) (p q z : Float) → Contains x (float p) → Contains y (float q) → Contains (open_bounds x y) (float z)
+open_parts x y p q z h k =
+    from_inside (open_bounds x y) (float z) refl (record {
+      value = and_from _ _ (inside x (float p) refl h).value (inside y (float q) refl k).value;
+      from = refl;
+      up_to = refl;
+    })
+
+-- there is a result, but for the remainder
+open_result : (a : Arithmetic) (x y : Bounds) (p q : Float) (f : Format) (of : ieee.Float → Float) (c d : ieee.Float) → IsTrue (not (is_remainder a)) → Contains x (float p) → Contains y (float q) →
+    Contains (open_bounds x y) (elim (option_map of (ieee_result a f c d)) [ Some z ↦ float z | None ↦ null ])
+open_result Sum x y p q f of c d r h k = open_parts x y p q (of (add f c d)) h k
+open_result Difference x y p q f of c d r h k = open_parts x y p q (of (sub f c d)) h k
+open_result Product x y p q f of c d r h k = open_parts x y p q (of (mul f c d)) h k
+open_result Quotient x y p q f of c d r h k = open_parts x y p q (of (div f c d)) h k
+open_result Remainder x y p q f of c d r h k = cc
+
+open_of_format : (a : Arithmetic) (x y : Bounds) (f g : FloatType) (p q : Float) → IsTrue (not (is_remainder a)) → IsTrue (same_float_type f g) → IsTrue (same_float_type (format_of p) f && is_canonical p) →
+    IsTrue (same_float_type (format_of q) g && is_canonical q) → Contains x (float p) → Contains y (float q) → Contains (open_bounds x y) (computed a (float p) (float q))
+open_of_format a x y FloatType.F32 FloatType.F32 (Float.F32 b) (Float.F32 c) r s d e h k = open_result a x y (Float.F32 b) (Float.F32 c) _ _ _ _ r h k
+open_of_format a x y FloatType.F64 FloatType.F64 (Float.F64 b) (Float.F64 c) r s d e h k = open_result a x y (Float.F64 b) (Float.F64 c) _ _ _ _ r h k
+open_of_format _ _ _ _ _ _ _ r s d e h k = cc
+
+open_float-sound : (a : Arithmetic) (f g : FloatType) (n m : Bool) (x y : Bounds) (v w : Datum) → IsTrue (not (is_remainder a)) → IsTrue (same_float_type f g) → Fits v (ty (atomic (floating f)) n) → Fits w (ty (atomic (floating g)) m) →
+    Contains x v → Contains y w → Contains (open_bounds x y) (computed a v w)
+open_float-sound a f g n m x y null w r s c d h k = or_left x.null y.null h
+open_float-sound a f g n m x y (float p) null r s c d h k = or_right x.null y.null k
+open_float-sound a f g n m x y (float p) (float q) r s c d h k = open_of_format a x y f g p q r s c d h k
+open_float-sound a f g n m x y _ _ r s c d h k = cc
+
+pub computed-sound : (a : Arithmetic) (x y : Bounds) {v w : Datum} → Numeric v → Numeric w → Contains x v → Contains y w → Contains (arithmetic_bounds a x y) (computed a v w)
+computed-sound Sum x y n m h k = sum-sound x y n m h k
+computed-sound Difference x y n m h k = open-sound Difference x y n m h k
+computed-sound Product x y n m h k = open-sound Product x y n m h k
+computed-sound Quotient x y n m h k = open-sound Quotient x y n m h k
+computed-sound Remainder x y n m h k = open-sound Remainder x y n m h k
+
+pub computed_floats-sound : (a : Arithmetic) (f g : FloatType) (n m : Bool) (x y : Bounds) (v w : Datum) → IsTrue (not (is_remainder a)) → IsTrue (same_float_type f g) → Fits v (ty (atomic (floating f)) n) → Fits w (ty (atomic (floating g)) m) →
+    Contains x v → Contains y w → Contains (arithmetic_bounds a x y) (computed a v w)
+computed_floats-sound Sum f g n m x y v w r s c d h k = float_sum-sound f g n m x y v w s c d h k
+computed_floats-sound Difference f g n m x y v w r s c d h k = open_float-sound Difference f g n m x y v w r s c d h k
+computed_floats-sound Product f g n m x y v w r s c d h k = open_float-sound Product f g n m x y v w r s c d h k
+computed_floats-sound Quotient f g n m x y v w r s c d h k = open_float-sound Quotient f g n m x y v w r s c d h k
+computed_floats-sound Remainder f g n m x y v w r s c d h k = open_float-sound Remainder f g n m x y v w r s c d h k

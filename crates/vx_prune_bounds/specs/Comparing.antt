@@ -1,7 +1,7 @@
 -- What comparisons of values within bounds may give.
 use Rattle.std.specs.Prelude.{Bool, true, false, ◌&&◌, ◌||◌, not, Option, Some}
 use Rattle.vx_value.specs.Types.{Datum}
-use Rattle.vx_fn.specs.Functions.{Operation, compares, and_also, or_else, adds, Comparison, equal, not_equal, greater, greater_or_equal, less, less_or_equal}
+use Rattle.vx_fn.specs.Functions.{Operation, compares, and_also, or_else, computes, Comparison, equal, not_equal, greater, greater_or_equal, less, less_or_equal}
 use Rattle.vx_fn.specs.Values.{bound_comparison}
 use Rattle.vx_prune_bounds.specs.Order.{at_most, below}
 use Rattle.vx_prune_bounds.specs.Bounds.{Bounds}
@@ -50,7 +50,7 @@ abbrev pub operation_truths : Operation → Bounds → Bounds → Truths
 operation_truths (compares c) x y = comparison_truths c x y
 operation_truths and_also x y = truths true true true
 operation_truths or_else x y = truths true true true
-operation_truths adds x y = truths true true true
+operation_truths (computes a) x y = truths true true true
 
 -- what `Between` may give
 abbrev pub between_truths : (lower_strict upper_strict : Bool) → Bounds → Bounds → Bounds → Truths

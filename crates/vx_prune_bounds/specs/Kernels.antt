@@ -1,5 +1,7 @@
 -- Bounds of what functions give of values within bounds.
 use Rattle.std.specs.Prelude.{ℤ, pos, negsuc, nat_lt, min, ◌-◌, ◌^◌, Bool, false, ◌&&◌, ◌||◌, List, [], ◌∷◌, Option, Some, None, ◌+ℤ◌, if◌then◌else◌}
+use Rattle.vx_floats.specs.declared.arithmetic.Arithmetic.{Arithmetic}
+use Rattle.vx_floats.specs.declared.arithmetic.Arithmetic.TheVariants.{Sum}
 use Rattle.vx_value.specs.Types.{Datum, null, int, float}
 use Rattle.vx_prune_bounds.specs.Bounds.{Bounds, bounds, nothing, exactly, of_both, join}
 use Rattle.vx_prune_bounds.specs.Truths.{Truths, truths, truths_in, may_fail}
@@ -24,6 +26,15 @@ of_sum f _ _ = None
 -- bounds of the sum of two numbers
 abbrev pub sum_bounds : Bounds → Bounds → Bounds
 sum_bounds x y = bounds (x.null || y.null) (x.value && y.value) (of_both (of_sum nearest_below) x.least y.least) (of_both (of_sum nearest_above) x.greatest y.greatest)
+
+-- whether what is computed of two values may be null or another value: its ends aren't known
+abbrev pub open_bounds : Bounds → Bounds → Bounds
+open_bounds x y = bounds (x.null || y.null) (x.value && y.value) None None
+
+-- bounds of what is computed of two numbers: the ends of sums alone are known
+abbrev pub arithmetic_bounds : Arithmetic → Bounds → Bounds → Bounds
+arithmetic_bounds Sum x y = sum_bounds x y
+arithmetic_bounds _ x y = open_bounds x y
 
 -- these bounds where that may be, else what no value is within
 abbrev pub only_if : Bool → Bounds → Bounds

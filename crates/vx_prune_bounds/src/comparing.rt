@@ -25,7 +25,13 @@ pub fn comparison_truths(operator: Operator, x: &Bounds, y: &Bounds) -> Truths
         Operator::Gte => answers(x, y, all_at_most(y, x), all_below(x, y)),
         Operator::Lt => answers(x, y, all_below(x, y), all_at_most(y, x)),
         Operator::Lte => answers(x, y, all_at_most(x, y), all_below(y, x)),
-        Operator::And | Operator::Or | Operator::Add => Truths {
+        Operator::And
+        | Operator::Or
+        | Operator::Add
+        | Operator::Sub
+        | Operator::Mul
+        | Operator::Div
+        | Operator::Rem => Truths {
             null: true,
             no: true,
             yes: true,

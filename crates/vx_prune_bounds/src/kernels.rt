@@ -2,13 +2,14 @@
 ghost use Rattle.std.specs.Prelude.{◌≡◌, ◌+ℤ◌, option_map};
 ghost use Rattle.vx_value.specs.Types.{int, null};
 ghost use Rattle.vx_prune_bounds.specs.Bounds.{exactly, of_both};
-ghost use Rattle.vx_prune_bounds.specs.Kernels.{nearest_above, nearest_below, of_sum, sum_bounds, only_if, not_null, fill_bounds, choice_bounds, mask_bounds, null_truths, shaped_as};
+ghost use Rattle.vx_prune_bounds.specs.Kernels.{nearest_above, nearest_below, of_sum, sum_bounds, arithmetic_bounds, only_if, not_null, fill_bounds, choice_bounds, mask_bounds, null_truths, shaped_as};
 ghost use Rattle.vx_prune_bounds.specs.Truths.{truths_in, truth_bounds};
 ghost use Rattle.vx_prune_bounds.specs.Views.{endpoint_value, bounds_view};
 
 use crate::bounds::Bounds;
 use crate::endpoint::Endpoint;
 use crate::truths::Truths;
+use vx_types::Arithmetic;
 
 impl<'a> Bounds<'a> {
     /// What null alone is within. Takes no memory.
@@ -99,8 +100,26 @@ impl<'a> Bounds<'a> {
     }
 }
 
-/// Bounds of the sum of two numbers, of which each is one of a number type or a decimal. Takes no memory.
-pub fn sum_bounds<'a>(x: &Bounds, y: &Bounds) -> Bounds<'a>
+/// Bounds of what is computed of two numbers: the ends of sums alone are known. Takes no memory.
+pub fn arithmetic_bounds<'a>(arithmetic: Arithmetic, x: &Bounds, y: &Bounds) -> Bounds<'a>
+    ensures { bounds_view result ≡ arithmetic_bounds arithmetic (bounds_view x.now) (bounds_view y.now) }
+{
+    match arithmetic {
+        Arithmetic::Sum => sum_bounds(x, y),
+        Arithmetic::Difference
+        | Arithmetic::Product
+        | Arithmetic::Quotient
+        | Arithmetic::Remainder => Bounds {
+            null: x.null || y.null,
+            value: x.value && y.value,
+            least: None,
+            greatest: None,
+        },
+    }
+}
+
+// Bounds of the sum of two numbers, of which each is one of a number type or a decimal.
+fn sum_bounds<'a>(x: &Bounds, y: &Bounds) -> Bounds<'a>
     ensures { bounds_view result ≡ sum_bounds (bounds_view x.now) (bounds_view y.now) }
 {
     Bounds {

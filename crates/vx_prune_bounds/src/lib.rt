@@ -16,7 +16,7 @@ pub use bounds::Bounds;
 pub use comparing::{between_truths, comparison_truths};
 pub use endpoint::Endpoint;
 pub use joins::is_interval;
-pub use kernels::{choice_bounds, fill_bounds, mask_bounds, sum_bounds};
+pub use kernels::{arithmetic_bounds, choice_bounds, fill_bounds, mask_bounds};
 pub use laws::{
     bounds_are_ordered, join_is_the_narrowest_around_both, meet_is_the_widest_within_both,
     values_are_bounds, wider_bounds_contain_more,

@@ -7,12 +7,12 @@ use Rattle.vx_value.specs.Fits.{Fits, EachFits}
 use Rattle.vx_value.specs.Types.{Name, number, decimals, LogicalType, ty, atomic, struct, Fields, Datum, null, bool, struct_of, is_null_datum}
 use Rattle.vx_dtype.specs.Lists.{Forall2, forall2_nil, forall2_cons}
 use Rattle.vx_fn.specs.Functions.{Function}
-use Rattle.vx_fn.specs.Rows.{FnType, of_case_else, of_case, of_get_item, of_literal, of_pack, of_select, of_fill_null, of_zip, of_comparison, of_and, of_or, of_add, of_add_floats, of_add_decimals, of_not, of_between, of_like, of_is_null, of_is_not_null, of_mask, of_cast}
+use Rattle.vx_fn.specs.Rows.{FnType, of_case_else, of_case, of_get_item, of_literal, of_pack, of_select, of_fill_null, of_zip, of_comparison, of_and, of_or, of_arithmetic, of_float_arithmetic, of_decimal_arithmetic, of_not, of_between, of_like, of_is_null, of_is_not_null, of_mask, of_cast}
 use Rattle.vx_fn.specs.Values.{bound_comparison, compared, fn_value, item_value, kleene_and, kleene_not, kleene_or, liked, select_value}
 use Rattle.vx_fn.specs.declared.options.FieldSelection.{FieldSelection}
 use Rattle.vx_prune_bounds.proofs.Contained.{contains-exactly}
 use Rattle.vx_prune_bounds.proofs.Sounds.{truths_in-sound, truth_bounds-sound, not-sound, and-sound, or-sound, comparison-sound, between-sound, fill-sound, choice-sound, mask-sound, case-sound, is_null-sound, is_not_null-sound, shaped_as-sound}
-use Rattle.vx_prune_bounds.proofs.Sums.{numeric, sum-sound, float_sum-sound}
+use Rattle.vx_prune_bounds.proofs.Sums.{numeric, computed-sound, computed_floats-sound}
 use Rattle.vx_prune_bounds.specs.Bounds.{Bounds, bounds, Contains}
 use Rattle.vx_prune_bounds.specs.Comparing.{between_truths, comparison_truths}
 use Rattle.vx_prune_bounds.specs.Kernels.{null_truths, shaped_as}
@@ -58,12 +58,12 @@ fn_bounds-sound (of_and {n = n} {m = m}) (forall2_cons {x = v} e (forall2_cons {
     truth_bounds-sound (and_truths (truths_in x) (truths_in y)) (kleene_and v w) (and-sound (truths_in x) (truths_in y) v w (truths_in-sound x v n e h) (truths_in-sound y w m f g))
 fn_bounds-sound (of_or {n = n} {m = m}) (forall2_cons {x = v} e (forall2_cons {x = w} f forall2_nil)) (forall2_cons {x = x} h (forall2_cons {x = y} g forall2_nil)) =
     truth_bounds-sound (or_truths (truths_in x) (truths_in y)) (kleene_or v w) (or-sound (truths_in x) (truths_in y) v w (truths_in-sound x v n e h) (truths_in-sound y w m f g))
-fn_bounds-sound (of_add {p = p} {q = q} {n = n} {m = m} s) (forall2_cons {x = v} e (forall2_cons {x = w} f forall2_nil)) (forall2_cons {x = x} h (forall2_cons {x = y} g forall2_nil)) =
-    sum-sound x y (numeric (ty (atomic (number p)) n) v refl e) (numeric (ty (atomic (number q)) m) w refl f) h g
-fn_bounds-sound (of_add_floats {f = f} {g = g} {n = n} {m = m} s) (forall2_cons {x = v} e (forall2_cons {x = w} h forall2_nil)) (forall2_cons {x = x} i (forall2_cons {x = y} j forall2_nil)) =
-    float_sum-sound f g n m x y v w s e h i j
-fn_bounds-sound (of_add_decimals {p = p} {s = s} {q = q} {r = r} {n = n} {m = m} a) (forall2_cons {x = v} e (forall2_cons {x = w} f forall2_nil)) (forall2_cons {x = x} h (forall2_cons {x = y} g forall2_nil)) =
-    sum-sound x y (numeric (ty (atomic (decimals p s)) n) v refl e) (numeric (ty (atomic (decimals q r)) m) w refl f) h g
+fn_bounds-sound (of_arithmetic {a = c} {p = p} {q = q} {n = n} {m = m} s) (forall2_cons {x = v} e (forall2_cons {x = w} f forall2_nil)) (forall2_cons {x = x} h (forall2_cons {x = y} g forall2_nil)) =
+    computed-sound c x y (numeric (ty (atomic (number p)) n) v refl e) (numeric (ty (atomic (number q)) m) w refl f) h g
+fn_bounds-sound (of_float_arithmetic {a = c} {f = f} {g = g} {n = n} {m = m} k s) (forall2_cons {x = v} e (forall2_cons {x = w} h forall2_nil)) (forall2_cons {x = x} i (forall2_cons {x = y} j forall2_nil)) =
+    computed_floats-sound c f g n m x y v w k s e h i j
+fn_bounds-sound (of_decimal_arithmetic {a = c} {p = p} {s = s} {q = q} {r = r} {n = n} {m = m} additive a) (forall2_cons {x = v} e (forall2_cons {x = w} f forall2_nil)) (forall2_cons {x = x} h (forall2_cons {x = y} g forall2_nil)) =
+    computed-sound c x y (numeric (ty (atomic (decimals p s)) n) v refl e) (numeric (ty (atomic (decimals q r)) m) w refl f) h g
 fn_bounds-sound (of_not {n = n}) (forall2_cons {x = v} e forall2_nil) (forall2_cons {x = x} h forall2_nil) =
     truth_bounds-sound (not_truths (truths_in x)) (kleene_not v) (not-sound (truths_in x) v (truths_in-sound x v n e h))
 fn_bounds-sound (of_between {ls = ls} {us = us} s q) (forall2_cons {x = v} e (forall2_cons {x = l} f (forall2_cons {x = u} d forall2_nil))) (forall2_cons {x = x} h (forall2_cons {x = y} g (forall2_cons {x = z} k forall2_nil))) =

@@ -4,11 +4,11 @@ use Rattle.std.specs.Prelude.{◌==◌, if◌then◌else◌, not}
 use Rattle.vx_value.specs.Paths.{Path}
 use Rattle.vx_value.specs.Types.{LogicalType}
 use Rattle.vx_dtype.specs.Lists.{Forall2, forall2_nil, forall2_cons}
-use Rattle.vx_fn.specs.Functions.{Function, case_when, get_item, literal, pack, select, fill_null, zip, binary, logical_not, between, like, is_null, is_not_null, mask, cast, Operation, compares, and_also, or_else, adds}
+use Rattle.vx_fn.specs.Functions.{Function, case_when, get_item, literal, pack, select, fill_null, zip, binary, logical_not, between, like, is_null, is_not_null, mask, cast, Operation, compares, and_also, or_else, computes}
 use Rattle.vx_tree.specs.Trees.{BoundTree, scope, node, BoundTrees, no_bound, bound}
 use Rattle.vx_prune_bounds.proofs.Contained.{any_of-proper, exactly-proper, from_within, within, within-refl}
 use Rattle.vx_prune_bounds.proofs.Lattice.{meet-mono, meet-proper}
-use Rattle.vx_prune_bounds.proofs.Monotone.{and-mono, between-mono, case-mono, choice-mono, comparison-mono, fewer, fill-mono, mask-mono, may_fail-mono, not-mono, null-mono, or-mono, shaped_as-mono, sum-mono, truth_bounds-mono, truths_in-mono}
+use Rattle.vx_prune_bounds.proofs.Monotone.{and-mono, between-mono, case-mono, choice-mono, comparison-mono, fewer, fill-mono, mask-mono, may_fail-mono, not-mono, null-mono, or-mono, shaped_as-mono, arithmetic-mono, truth_bounds-mono, truths_in-mono}
 use Rattle.vx_prune_bounds.specs.Bounds.{Bounds, any_of, exactly, meet, IsProper, IsWithin}
 use Rattle.vx_prune_bounds.specs.Comparing.{between_truths, comparison_truths}
 use Rattle.vx_prune_bounds.specs.Kernels.{null_truths}
@@ -61,7 +61,7 @@ binary-mono and_also x y n v w k =
     truth_bounds-mono (and_truths (truths_in x) (truths_in v)) (and_truths (truths_in y) (truths_in w)) (and-mono (truths_in x) (truths_in y) (truths_in v) (truths_in w) (truths_in-mono x y n.0) (truths_in-mono v w k.0))
 binary-mono or_else x y n v w k =
     truth_bounds-mono (or_truths (truths_in x) (truths_in v)) (or_truths (truths_in y) (truths_in w)) (or-mono (truths_in x) (truths_in y) (truths_in v) (truths_in w) (truths_in-mono x y n.0) (truths_in-mono v w k.0))
-binary-mono adds x y n v w k = sum-mono x y v w n.0 k.0
+binary-mono (computes a) x y n v w k = arithmetic-mono a x y v w n.0 k.0
 
 fn_bounds-mono : (f : Function) {xs ys : List Bounds} → Forall2 Narrows xs ys → IsWithin (fn_bounds f xs) (fn_bounds f ys)
 fn_bounds-mono (case_when pairs has_else) a = case-mono (each-within a)

@@ -2,11 +2,11 @@
 use Rattle.std.proofs.Common.{◌≡◌, List, [], ◌∷◌, refl, sym, subst, true, Some}
 use Rattle.std.specs.Prelude.{is_some}
 use Rattle.vx_value.specs.Paths.{Path}
-use Rattle.vx_fn.specs.Functions.{Function, case_when, get_item, literal, pack, select, fill_null, zip, binary, logical_not, between, like, is_null, is_not_null, mask, cast, Operation, compares, and_also, or_else, adds}
+use Rattle.vx_fn.specs.Functions.{Function, case_when, get_item, literal, pack, select, fill_null, zip, binary, logical_not, between, like, is_null, is_not_null, mask, cast, Operation, compares, and_also, or_else, computes}
 use Rattle.vx_tree.specs.Trees.{BoundTree, scope, node, BoundTrees, no_bound, bound}
 use Rattle.vx_prune_bounds.proofs.Contained.{exactly-proper, implied}
 use Rattle.vx_prune_bounds.proofs.Lattice.{meet-proper}
-use Rattle.vx_prune_bounds.proofs.Monotone.{EachProper, case-proper, choice-proper, fill-proper, mask-proper, shaped_as-proper, sum-proper, truth_bounds-proper}
+use Rattle.vx_prune_bounds.proofs.Monotone.{EachProper, case-proper, choice-proper, fill-proper, mask-proper, shaped_as-proper, arithmetic-proper, truth_bounds-proper}
 use Rattle.vx_prune_bounds.specs.Bounds.{Bounds, any_of, IsProper}
 use Rattle.vx_prune_bounds.specs.Comparing.{between_truths, comparison_truths}
 use Rattle.vx_prune_bounds.specs.Kernels.{null_truths}
@@ -41,7 +41,7 @@ binary-proper : (op : Operation) (x y : Bounds) → IsProper x → IsProper y �
 binary-proper (compares c) x y p q = truth_bounds-proper (comparison_truths c x y)
 binary-proper and_also x y p q = truth_bounds-proper (and_truths (truths_in x) (truths_in y))
 binary-proper or_else x y p q = truth_bounds-proper (or_truths (truths_in x) (truths_in y))
-binary-proper adds x y p q = sum-proper x y p q
+binary-proper (computes a) x y p q = arithmetic-proper a x y p q
 
 fn_bounds-proper : (f : Function) (xs : List Bounds) → EachProper xs → IsProper (fn_bounds f xs)
 fn_bounds-proper (case_when pairs has_else) xs p = case-proper xs p

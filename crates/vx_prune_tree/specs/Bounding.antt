@@ -1,12 +1,12 @@
 -- Bounds of a tree's values in a chunk of which something is known.
 use Rattle.std.specs.Prelude.{true, false, List, [], ◌∷◌, ◌++◌, Option, Some, None, option_map}
 use Rattle.vx_value.specs.Paths.{Path}
-use Rattle.vx_fn.specs.Functions.{Function, case_when, get_item, literal, pack, select, fill_null, zip, binary, logical_not, between, like, is_null, is_not_null, mask, cast, Operation, compares, and_also, or_else, adds}
+use Rattle.vx_fn.specs.Functions.{Function, case_when, get_item, literal, pack, select, fill_null, zip, binary, logical_not, between, like, is_null, is_not_null, mask, cast, Operation, compares, and_also, or_else, computes}
 use Rattle.vx_tree.specs.Trees.{BoundTree, scope, node, BoundTrees, no_bound, bound}
 use Rattle.vx_prune_bounds.specs.Bounds.{Bounds, bounds, any_of, exactly, meet}
 use Rattle.vx_prune_bounds.specs.Truths.{truths_in, truth_bounds, not_truths, and_truths, or_truths}
 use Rattle.vx_prune_bounds.specs.Comparing.{comparison_truths, between_truths}
-use Rattle.vx_prune_bounds.specs.Kernels.{sum_bounds, fill_bounds, choice_bounds, mask_bounds, case_bounds, null_truths, shaped_as}
+use Rattle.vx_prune_bounds.specs.Kernels.{arithmetic_bounds, fill_bounds, choice_bounds, mask_bounds, case_bounds, null_truths, shaped_as}
 use Rattle.vx_prune_bounds.specs.Beginnings.{like_truths}
 use Rattle.vx_prune_tree.specs.Stats.{Facts, facts_at, field_bounds}
 
@@ -75,7 +75,7 @@ abbrev pub binary_bounds : Operation → Bounds → Bounds → Bounds
 binary_bounds (compares c) x y = truth_bounds (comparison_truths c x y)
 binary_bounds and_also x y = truth_bounds (and_truths (truths_in x) (truths_in y))
 binary_bounds or_else x y = truth_bounds (or_truths (truths_in x) (truths_in y))
-binary_bounds adds x y = sum_bounds x y
+binary_bounds (computes a) x y = arithmetic_bounds a x y
 
 -- bounds of what a function gives of its children's values, by their bounds
 abbrev pub fn_bounds : Function → List Bounds → Bounds

@@ -14,10 +14,10 @@ ghost use Rattle.vx_prune_tree.specs.Cases.{is_of_children};
 
 use vx_fn::{Operator, ScalarFnRef};
 use vx_prune_bounds::{
-    Bounds, Truths, between_truths, choice_bounds, comparison_truths, fill_bounds, like_truths,
-    mask_bounds, sum_bounds,
+    Bounds, Truths, arithmetic_bounds, between_truths, choice_bounds, comparison_truths,
+    fill_bounds, like_truths, mask_bounds,
 };
-use vx_types::{DType, Scalar};
+use vx_types::{Arithmetic, DType, Scalar};
 
 // Those of a value of which nothing is known.
 pub(crate) fn unknown<'a>() -> Bounds<'a>
@@ -139,7 +139,11 @@ fn put_of_operator(operator: Operator, x: &mut Bounds, y: &Bounds)
     match operator {
         Operator::And => *x = Bounds::of_truths(x.truths().and(y.truths())),
         Operator::Or => *x = Bounds::of_truths(x.truths().or(y.truths())),
-        Operator::Add => *x = sum_bounds(x, y),
+        Operator::Add => *x = arithmetic_bounds(Arithmetic::Sum, x, y),
+        Operator::Sub => *x = arithmetic_bounds(Arithmetic::Difference, x, y),
+        Operator::Mul => *x = arithmetic_bounds(Arithmetic::Product, x, y),
+        Operator::Div => *x = arithmetic_bounds(Arithmetic::Quotient, x, y),
+        Operator::Rem => *x = arithmetic_bounds(Arithmetic::Remainder, x, y),
         Operator::Eq
         | Operator::NotEq
         | Operator::Gt

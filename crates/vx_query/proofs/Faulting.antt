@@ -1,13 +1,14 @@
 -- Nodes fault with faults alone.
-use Rattle.std.proofs.Common.{◌≡◌, ℕ, Bool, true, false, List, map, Option, Some, None, Err, refl, subst}
+use Rattle.std.proofs.Common.{◌≡◌, ℕ, Bool, true, false, List, [], get_or, if◌then◌else◌, map, Option, Some, None, Err, refl, subst}
 use Rattle.std.specs.Option.{option_or, option_map}
 use Rattle.std.specs.Prelude.{position}
 use Rattle.vx_dtype.specs.declared.error.VortexError.{VortexError}
-use Rattle.vx_dtype.specs.declared.error.VortexError.TheVariants.{AddOverflow, CastNull, BadFill}
+use Rattle.vx_dtype.specs.declared.error.VortexError.TheVariants.{AddOverflow, CastNull, BadFill, DivisionByZero}
+use Rattle.vx_floats.specs.declared.arithmetic.Arithmetic.{Arithmetic}
 use Rattle.vx_value.specs.Columns.{Batch, batch}
 use Rattle.vx_value.specs.Types.{LogicalType, Datum}
-use Rattle.vx_fn.specs.Faults.{node_fault, overflows, misfits, is_bad_fill, fill_of, when}
-use Rattle.vx_fn.specs.Functions.{Function, binary, adds, cast, fill_null}
+use Rattle.vx_fn.specs.Faults.{node_fault, divides_by_zero, has_fault, row_fault, misfits, is_bad_fill, fill_of, when}
+use Rattle.vx_fn.specs.Functions.{Function, binary, computes, cast, fill_null}
 use Rattle.vx_tree.specs.Faults.{first_fault, each_fault}
 use Rattle.vx_tree.specs.Meaning.{mean, values}
 use Rattle.vx_tree.specs.Trees.{BoundTree, scope, node, BoundTrees, no_bound, bound, node_type, node_types, unbound}
@@ -27,8 +28,15 @@ bad_fill : (b : Bool) (y : VortexError) → when b BadFill ≡ Some y → IsFaul
 bad_fill true y e = let same : BadFill ≡ y = cc in subst IsFault same tt
 bad_fill false y e = cc
 
+row_faults : (a : Arithmetic) (row : List Datum) (n : ℕ) → IsFault (row_fault a row n)
+row_faults a row n = go (divides_by_zero a row)
+  where
+    go : (b : Bool) → IsFault (if b then DivisionByZero n else AddOverflow n)
+    go true = tt
+    go false = tt
+
 node_faults : (f : Function) (ts : List LogicalType) (rows : List (List Datum)) (y : VortexError) → node_fault f ts rows ≡ Some y → IsFault y
-node_faults (binary adds) ts rows y e = in_row (position (overflows ts) rows) AddOverflow y (λ n. tt) e
+node_faults (binary (computes a)) ts rows y e = in_row (position (has_fault a ts) rows) (λ n. row_fault a (get_or rows n []) n) y (λ n. row_faults a (get_or rows n []) n) e
 node_faults (cast t) ts rows y e = in_row (position (misfits t) rows) CastNull y (λ n. tt) e
 node_faults fill_null ts rows y e = bad_fill (is_bad_fill ts (map fill_of rows)) y e
 node_faults _ ts rows y e = cc

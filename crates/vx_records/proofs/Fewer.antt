@@ -1,5 +1,5 @@
 -- A tree that faults nowhere on a batch faults nowhere on rows of it.
-use Rattle.std.proofs.Common.{◌≡◌, ◌∙◌, ◌+◌, ◌≤◌, ◌∷◌, ◌++◌, List, [], Bool, true, false, Option, None, Ok, map, length, refl, sym, ap, subst, inl, inr, arith}
+use Rattle.std.proofs.Common.{◌≡◌, ◌∙◌, ℕ, ◌+◌, ◌≤◌, ◌∷◌, ◌++◌, List, [], Bool, true, false, Option, None, Ok, map, length, get_or, refl, sym, ap, subst, inl, inr, arith}
 use Rattle.std.specs.Prelude.{not, cond, position}
 use Rattle.std.specs.Cmp.{bool_cmp_total}
 use Rattle.std.specs.List.{list_any, position_or_len, prefix_len}
@@ -13,12 +13,12 @@ use Rattle.std.proofs.lemmas.List.{map-append}
 use Rattle.vx_dtype.specs.Lists.{IsIn}
 use Rattle.vx_dtype.specs.Joins.{same_base}
 use Rattle.vx_dtype.specs.declared.error.VortexError.{VortexError}
-use Rattle.vx_dtype.specs.declared.error.VortexError.TheVariants.{AddOverflow, CastNull, BadFill}
+use Rattle.vx_dtype.specs.declared.error.VortexError.TheVariants.{CastNull, BadFill}
 use Rattle.vx_dtype.proofs.Lists.{in_left, in_right}
 use Rattle.vx_value.specs.Fits.{IsBatch, fits}
 use Rattle.vx_value.specs.Types.{truth, number, floating, decimals, date, timestamp, text, octets, LogicalType, ty, atomic, Datum, bool, int, float, utf8, bytes, is_null_datum}
-use Rattle.vx_fn.specs.Faults.{node_fault, overflows, misfits, differs, fill_of, is_bad_fill, some_differ, when}
-use Rattle.vx_fn.specs.Functions.{Function, Typing, binary, adds, cast, fill_null, fn_type, is_atomic, needs}
+use Rattle.vx_fn.specs.Faults.{node_fault, has_fault, row_fault, misfits, differs, fill_of, is_bad_fill, some_differ, when}
+use Rattle.vx_fn.specs.Functions.{Function, Typing, binary, computes, cast, fill_null, fn_type, is_atomic, needs}
 use Rattle.vx_fn.specs.Values.{order}
 use Rattle.vx_fn.proofs.Fills.{none_differ}
 use Rattle.vx_prune_bounds.proofs.Floats.{float_total}
@@ -149,9 +149,10 @@ fills_of_fewer x y s t whole part typing typed over is quiet of e =
 
 node_of_fewer : (f : Function) (bs : BoundTrees) (s t : LogicalType) (whole part : List Datum) → fn_type f (node_types bs) ≡ Ok t → EachWellTyped bs → EachOver bs s → IsBatch s whole → each_fault bs whole ≡ None → AreOf part whole
     → node_fault f (node_types bs) (map (values bs) whole) ≡ None → node_fault f (node_types bs) (map (values bs) part) ≡ None
-node_of_fewer (binary adds) bs s t whole part typing typed over is quiet of e =
+node_of_fewer (binary (computes a)) bs s t whole part typing typed over is quiet of e =
     let ts = node_types bs in
-    ap (option_map AddOverflow) (nowhere (overflows ts) (values bs) part (λ v i. none_passes (overflows ts) (map (values bs) whole) (values bs v) (map_none AddOverflow _ e) (IsIn-map (values bs) whole v (of v i))))
+    let fault = λ (rows : List (List Datum)) (n : ℕ). row_fault a (get_or rows n []) n in
+    ap (option_map (fault (map (values bs) part))) (nowhere (has_fault a ts) (values bs) part (λ v i. none_passes (has_fault a ts) (map (values bs) whole) (values bs v) (map_none (fault (map (values bs) whole)) _ e) (IsIn-map (values bs) whole v (of v i))))
 node_of_fewer (cast u) bs s t whole part typing typed over is quiet of e =
     ap (option_map CastNull) (nowhere (misfits u) (values bs) part (λ v i. none_passes (misfits u) (map (values bs) whole) (values bs v) (map_none CastNull _ e) (IsIn-map (values bs) whole v (of v i))))
 node_of_fewer fill_null (bound x (bound y no_bound)) s t whole part typing typed over is quiet of e =

@@ -1,5 +1,5 @@
 -- A tree whose children are replaced by trees that keep them is kept.
-use Rattle.std.proofs.Common.{◌≡◌, List, [], ◌∷◌, refl, sym, ap, map, ◌∙◌}
+use Rattle.std.proofs.Common.{◌≡◌, List, [], ◌∷◌, get_or, refl, sym, ap, map, ◌∙◌}
 use Rattle.std.specs.Prelude.{None, if◌then◌else◌, Ok, not, ◌||◌, position}
 use Rattle.std.specs.List.{list_any}
 use Rattle.std.specs.Option.{option_map}
@@ -12,18 +12,18 @@ use Rattle.vx_value.specs.Types.{Name, truth, number, floating, decimals, date, 
 use Rattle.vx_value.specs.Fields.{field_value, project_values}
 use Rattle.vx_dtype.specs.Joins.{Narrower, narrower, NarrowerShape, same_atomic_shape, narrower_list, narrower_fixed, narrower_struct, NarrowerFields, no_fields, narrower_field, NarrowerEach}
 use Rattle.vx_dtype.specs.Lists.{forall2_nil, forall2_cons, IsIn}
-use Rattle.vx_fn.specs.Functions.{Function, get_item, select, fill_null, binary, adds, included, fn_type}
-use Rattle.vx_fn.specs.Values.{fn_value, at_one, item_value, select_value, sum_of, at_two}
+use Rattle.vx_fn.specs.Functions.{Function, get_item, select, fill_null, binary, computes, included, fn_type}
+use Rattle.vx_fn.specs.Values.{fn_value, at_one, item_value, select_value, computed, at_two}
 use Rattle.vx_tree.proofs.Meant.{mean-unbound}
 use Rattle.vx_tree.specs.Meaning.{mean, values}
-use Rattle.vx_fn.specs.Faults.{overflows, is_outside, is_fillable, fill_of, some_differ, when, node_fault}
+use Rattle.vx_fn.specs.Faults.{divides_by_zero, has_fault, row_fault, is_outside, is_fillable, fill_of, some_differ, when, node_fault}
 use Rattle.vx_tree.specs.Faults.{each_fault}
 use Rattle.vx_tree.specs.Trees.{BoundTree, node, BoundTrees, node_type, node_types, WellTyped, EachWellTyped, Over, EachOver, unbound}
 use Rattle.vx_rewrite_core.specs.Keeps.{Keeps, KeepsEach, keeps_none, keeps_more, KeepsUnderNodes}
 use Rattle.vx_tree.specs.Faults.{HasNoFault}
 use Rattle.vx_value.specs.Fits.{IsBatch}
 use Rattle.vx_fn.specs.declared.options.FieldSelection.{FieldSelection}
-use Rattle.vx_dtype.specs.declared.error.VortexError.TheVariants.{AddOverflow, BadFill}
+use Rattle.vx_dtype.specs.declared.error.VortexError.TheVariants.{BadFill}
 use Rattle.vx_dtype.proofs.Lists.{map_same}
 
 mutual
@@ -106,9 +106,9 @@ fillable-narrower (forall2_cons (narrower (narrower_fixed p) i) q) = refl
 fillable-narrower (forall2_cons (narrower (narrower_struct p) i) q) = refl
 
 pub node_fault-narrower : {ts us : List LogicalType} (f : Function) (rows : List (List Datum)) → NarrowerEach ts us → node_fault f ts rows ≡ node_fault f us rows
-node_fault-narrower {ts = ts} {us = us} (binary adds) rows q =
-    let e : overflows ts ≡ overflows us = fun_ext (λ row. outside-narrower (at_two sum_of row) q) in
-    ap (λ test. option_map AddOverflow (position test rows)) e
+node_fault-narrower {ts = ts} {us = us} (binary (computes a)) rows q =
+    let e : has_fault a ts ≡ has_fault a us = fun_ext (λ row. ap (λ b. divides_by_zero a row || b) (outside-narrower (at_two (computed a) row) q)) in
+    ap (λ test. option_map (λ n. row_fault a (get_or rows n []) n) (position test rows)) e
 node_fault-narrower fill_null rows q = ap (λ b. when (not b || list_any is_null_datum (map fill_of rows) || some_differ (map fill_of rows)) BadFill) (fillable-narrower q)
 node_fault-narrower _ rows q = refl
 

@@ -66,7 +66,7 @@ fn known_of_binary<'a>(
     match operator {
         Operator::And => known_of_logic(true, left, right),
         Operator::Or => known_of_logic(false, left, right),
-        Operator::Add => None,
+        Operator::Add | Operator::Sub | Operator::Mul | Operator::Div | Operator::Rem => None,
         Operator::Eq
         | Operator::NotEq
         | Operator::Gt

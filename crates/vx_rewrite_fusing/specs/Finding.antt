@@ -4,7 +4,7 @@ use Rattle.std.specs.declared.alloc.Global.{Global}
 use Rattle.std.specs.declared.boxed.Box.{Box}
 use Rattle.vx_dtype.specs.declared.error.VortexError.{VortexError}
 use Rattle.vx_dtype.specs.declared.error.VortexError.TheVariants.{OutOfMemory}
-use Rattle.vx_fn.specs.Functions.{Operation, compares, and_also, or_else, adds}
+use Rattle.vx_fn.specs.Functions.{Operation, compares, and_also, or_else, computes}
 use Rattle.vx_fn.specs.Views.{is_strict}
 use Rattle.vx_dtype.specs.Lists.{IsIn}
 use Rattle.vx_tree.specs.Trees.{BoundTree, scope, node, BoundTrees, no_bound, bound}
@@ -31,7 +31,7 @@ abbrev pub range_by : Operation → BoundTree → BoundTree → Option Range
 range_by (compares c) x y = range c x y
 range_by and_also x y = None
 range_by or_else x y = None
-range_by adds x y = None
+range_by (computes a) x y = None
 
 -- the range with that side
 abbrev pub range_from : Side → Bool → BoundTree → BoundTree → Range

@@ -56,9 +56,15 @@ fn range<'a>(
         Operator::Gte => (Side::Below, StrictComparison::NonStrict),
         Operator::Lt => (Side::Above, StrictComparison::Strict),
         Operator::Lte => (Side::Above, StrictComparison::NonStrict),
-        Operator::Eq | Operator::NotEq | Operator::And | Operator::Or | Operator::Add => {
-            return None;
-        }
+        Operator::Eq
+        | Operator::NotEq
+        | Operator::And
+        | Operator::Or
+        | Operator::Add
+        | Operator::Sub
+        | Operator::Mul
+        | Operator::Div
+        | Operator::Rem => return None,
     };
     Some(RangeComparison {
         side,

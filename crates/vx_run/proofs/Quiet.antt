@@ -2,14 +2,14 @@
 use Rattle.std.proofs.Common.{◌≡◌, List, map, refl, None, IsTrue}
 use Rattle.vx_value.specs.Types.{LogicalType, Datum}
 use Rattle.vx_fn.specs.Faults.{node_fault}
-use Rattle.vx_fn.specs.Functions.{Function, binary, adds, cast, fill_null}
+use Rattle.vx_fn.specs.Functions.{Function, binary, computes, cast, fill_null}
 use Rattle.vx_tree.specs.Faults.{each_fault, HasNoFault}
 use Rattle.vx_tree.specs.Meaning.{values}
 use Rattle.vx_tree.specs.Trees.{BoundTree, scope, node, BoundTrees, no_bound, bound, node_types, unbound, unbound_each}
 use Rattle.vx_run.specs.Quiet.{is_quiet, IsQuiet, EachQuiet}
 
 node_quiet : (f : Function) (ts : List LogicalType) (rows : List (List Datum)) → IsTrue (is_quiet f) → node_fault f ts rows ≡ None
-node_quiet (binary adds) ts rows e = cc
+node_quiet (binary (computes a)) ts rows e = cc
 node_quiet (cast t) ts rows e = cc
 node_quiet fill_null ts rows e = cc
 node_quiet _ ts rows e = refl

@@ -1,11 +1,11 @@
 -- Trees that fault on no batch.
 use Rattle.std.specs.Prelude.{Bool, true, false, IsTrue}
-use Rattle.vx_fn.specs.Functions.{Function, binary, adds, cast, fill_null}
+use Rattle.vx_fn.specs.Functions.{Function, binary, computes, cast, fill_null}
 use Rattle.vx_tree.specs.Trees.{Tree, root, call, Trees, no_tree, tree}
 
--- whether the function never faults: it is no sum, no cast and no fill
+-- whether the function never faults: it is no arithmetic, no cast and no fill
 abbrev pub is_quiet : Function → Bool
-is_quiet (binary adds) = false
+is_quiet (binary (computes a)) = false
 is_quiet (cast t) = false
 is_quiet fill_null = false
 is_quiet _ = true

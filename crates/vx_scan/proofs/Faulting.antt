@@ -10,7 +10,7 @@ use Rattle.vx_value.specs.Types.{LogicalType, Datum}
 use Rattle.vx_fn.proofs.Rows.{fn_type-found}
 use Rattle.vx_fn.specs.Faults.{node_fault}
 use Rattle.vx_dtype.specs.Lists.{IsIn}
-use Rattle.vx_fn.specs.Functions.{Function, binary, adds, cast, fill_null}
+use Rattle.vx_fn.specs.Functions.{Function, binary, computes, cast, fill_null}
 use Rattle.vx_tree.proofs.Trees.{each_passes, or_none}
 use Rattle.vx_tree.specs.Faults.{first_fault, each_fault}
 use Rattle.vx_tree.specs.Meaning.{value, values}
@@ -50,7 +50,7 @@ zip_alike P f (v ∷ vs) (w ∷ ws) z h =
 -- a node that may fault asks its children for all that they have
 node_alike : (f : Function) (ts : List LogicalType) (rows others : List (List Datum)) (paths : List Path) → paths ≢ [] → (child_paths f ts paths ≡ whole → rows ≡ others) → node_fault f ts rows ≡ node_fault f ts others
 node_alike f ts rows others [] k e = absurd (k refl)
-node_alike (binary adds) ts rows others (path ∷ paths) k e = ap (node_fault (binary adds) ts) (e refl)
+node_alike (binary (computes a)) ts rows others (path ∷ paths) k e = ap (node_fault (binary (computes a)) ts) (e refl)
 node_alike (cast u) ts rows others (path ∷ paths) k e = ap (node_fault (cast u) ts) (e refl)
 node_alike fill_null ts rows others (path ∷ paths) k e = ap (node_fault fill_null ts) (e refl)
 node_alike _ ts rows others (path ∷ paths) k e = refl

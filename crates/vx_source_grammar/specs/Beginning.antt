@@ -82,7 +82,7 @@ number_begins fs r x None = value_begins fs r x
 
 -- ---- operands
 
--- `not`, which is no operand of a comparison or a sum
+-- `not`, which is no operand of a comparison or of arithmetic
 abbrev pub not_begins : List Frame → ℕ → ExpressionAnswer
 not_begins (in_binary op e ∷ fs) r = Err OperandOrParens
 not_begins (in_like negated case_insensitive e ∷ fs) r = Err OperandOrParens

@@ -3,12 +3,14 @@ use Rattle.std.specs.Prelude.{ℕ, Bool, true, false, List, [], ◌∷◌, ◌++
 use Rattle.vx_value.specs.Types.{Name, truth, ty, atomic, bool}
 use Rattle.vx_fn.specs.declared.options.FieldSelection.{FieldSelection}
 use Rattle.vx_fn.specs.declared.options.FieldSelection.TheVariants.{Include, Exclude}
-use Rattle.vx_fn.specs.Functions.{Comparison, equal, not_equal, greater, greater_or_equal, less, less_or_equal, Operation, compares, and_also, or_else, adds, Function, get_item, literal, select, fill_null, is_null, is_not_null}
+use Rattle.vx_floats.specs.declared.arithmetic.Arithmetic.{Arithmetic}
+use Rattle.vx_floats.specs.declared.arithmetic.Arithmetic.TheVariants.{Sum, Difference, Product, Quotient, Remainder}
+use Rattle.vx_fn.specs.Functions.{Comparison, equal, not_equal, greater, greater_or_equal, less, less_or_equal, Operation, compares, and_also, or_else, computes, Function, get_item, literal, select, fill_null, is_null, is_not_null}
 use Rattle.vx_tree.specs.Trees.{Tree}
 use Rattle.vx_source_types.specs.declared.expectation.Expected.{Expected}
 use Rattle.vx_source_types.specs.declared.expectation.Expected.TheVariants.{Name as AName, OpenParen as AParen, Parens, Like as LikeWord, Null as NullWord, CommaOrCloseBrace}
 use Rattle.vx_source_types.specs.declared.token.Sign.{Sign}
-use Rattle.vx_source_types.specs.declared.token.Sign.TheVariants.{OpenParen, OpenBrace, CloseBrace, Comma, DoubleColon, Dot, Tilde, Equal, DoubleEqual, NotEqual, Less, LessEqual, Greater, GreaterEqual, Plus}
+use Rattle.vx_source_types.specs.declared.token.Sign.TheVariants.{OpenParen, OpenBrace, CloseBrace, Comma, DoubleColon, Dot, Tilde, Equal, DoubleEqual, NotEqual, Less, LessEqual, Greater, GreaterEqual, Plus, Minus, Star, Slash, Percent}
 use Rattle.vx_source_types.specs.Tokens.{Lexeme, word, sign}
 use Rattle.vx_source_types.specs.Names.{name_at}
 use Rattle.vx_source_types.specs.Reading.{refused}
@@ -17,7 +19,7 @@ use Rattle.vx_source_grammar.specs.declared.words.Keyword.{Keyword}
 use Rattle.vx_source_grammar.specs.declared.words.Keyword.TheVariants.{And, Or, Not, Like, Ilike, Between, In, Is, Null, True, False}
 use Rattle.vx_source_grammar.specs.Keywords.{keyword_of}
 use Rattle.vx_source_grammar.specs.Closing.{closes, node_stands}
-use Rattle.vx_source_grammar.specs.Joining.{over, reduced}
+use Rattle.vx_source_grammar.specs.Joining.{arithmetic_level, over, reduced}
 use Rattle.vx_source_grammar.specs.States.{Frame, in_chain, in_not, in_binary, in_like, in_lower, in_upper, in_members, for_cast, operand_due, at_dot, at_selection, at_exclusion, selected_name, selected_next, at_not, at_is, at_is_not, at_in, in_type, ExpressionAnswer, goes, when_read, stands_loosely}
 
 -- the comparison of a sign
@@ -116,12 +118,20 @@ abbrev pub sign_goes : List Frame → ℕ → Tree → Lexeme → Option Compari
 sign_goes fs r e x (Some c) = summed fs r e (comparison_goes r c)
 sign_goes fs r e x None = closes fs r e x
 
+-- arithmetic behind an operand
+abbrev pub arithmetic_goes : List Frame → ℕ → Tree → Arithmetic → ExpressionAnswer
+arithmetic_goes fs r e a = when_read (λ p. goes (in_binary (computes a) p.1 ∷ p.0) operand_due r) (reduced (arithmetic_level a) r fs e)
+
 -- what follows an operand
 abbrev pub follows : List Frame → ℕ → Tree → Lexeme → ExpressionAnswer
 follows fs r e (sign Dot) = goes fs (at_dot e) r
 follows fs r e (sign OpenBrace) = goes fs (at_selection e) r
 follows fs r e (sign DoubleColon) = goes fs (in_type (for_cast e) (type_start r)) r
-follows fs r e (sign Plus) = summed fs r e (λ gs d. goes (in_binary adds d ∷ gs) operand_due r)
+follows fs r e (sign Plus) = arithmetic_goes fs r e Sum
+follows fs r e (sign Minus) = arithmetic_goes fs r e Difference
+follows fs r e (sign Star) = arithmetic_goes fs r e Product
+follows fs r e (sign Slash) = arithmetic_goes fs r e Quotient
+follows fs r e (sign Percent) = arithmetic_goes fs r e Remainder
 follows fs r e (sign s) = sign_goes fs r e (sign s) (comparison_of s)
 follows fs r e (word w) = word_goes fs r e (word w) (keyword_of w)
 follows fs r e x = closes fs r e x
@@ -147,6 +157,10 @@ follows_loosely fs r e (sign Dot) = Err Parens
 follows_loosely fs r e (sign OpenBrace) = Err Parens
 follows_loosely fs r e (sign DoubleColon) = Err Parens
 follows_loosely fs r e (sign Plus) = Err Parens
+follows_loosely fs r e (sign Minus) = Err Parens
+follows_loosely fs r e (sign Star) = Err Parens
+follows_loosely fs r e (sign Slash) = Err Parens
+follows_loosely fs r e (sign Percent) = Err Parens
 follows_loosely fs r e (sign s) = loose_sign_goes fs r e (sign s) (comparison_of s)
 follows_loosely fs r e (word w) = loose_word_goes fs r e (word w) (keyword_of w)
 follows_loosely fs r e x = closes fs r e x

@@ -1,6 +1,8 @@
 -- Operators that have their last operand.
 use Rattle.std.specs.Prelude.{ℕ, zero, suc, true, false, List, [], ◌∷◌, ◌++◌, length, Result, Ok, Err, nat_le}
-use Rattle.vx_fn.specs.Functions.{Function, equal, Operation, compares, or_else, adds, logical_not, binary, like, between}
+use Rattle.vx_floats.specs.declared.arithmetic.Arithmetic.{Arithmetic}
+use Rattle.vx_floats.specs.declared.arithmetic.Arithmetic.TheVariants.{Sum, Difference, Product, Quotient, Remainder}
+use Rattle.vx_fn.specs.Functions.{Function, equal, Operation, compares, or_else, computes, logical_not, binary, like, between}
 use Rattle.vx_tree.specs.Trees.{Tree}
 use Rattle.vx_tree.specs.Views.{trees_from}
 use Rattle.vx_source_types.specs.declared.expectation.Expected.{Expected}
@@ -8,13 +10,21 @@ use Rattle.vx_source_types.specs.declared.expectation.Expected.TheVariants.{Oper
 use Rattle.vx_source_grammar.specs.Nodes.{node_read}
 use Rattle.vx_source_grammar.specs.States.{Frame, in_chain, in_not, in_binary, in_like, in_upper, when_read}
 
--- how tightly what waits for its last operand binds, the loosest first: or, and, not, comparisons, `+`; 0 of a bracket, and of
--- what waits for more
+-- how tightly arithmetic binds: products, quotients and remainders more tightly than sums and differences
+abbrev pub arithmetic_level : Arithmetic → ℕ
+arithmetic_level Sum = 5
+arithmetic_level Difference = 5
+arithmetic_level Product = 6
+arithmetic_level Quotient = 6
+arithmetic_level Remainder = 6
+
+-- how tightly what waits for its last operand binds, the loosest first: or, and, not, comparisons, arithmetic; 0 of a bracket, and
+-- of what waits for more
 abbrev pub level_of : Frame → ℕ
 level_of (in_chain or_else es) = 1
 level_of (in_chain op es) = 2
 level_of in_not = 3
-level_of (in_binary adds e) = 5
+level_of (in_binary (computes a) e) = arithmetic_level a
 level_of (in_binary op e) = 4
 level_of (in_like negated case_insensitive e) = 4
 level_of (in_upper lower_strict upper_strict array lower) = 4

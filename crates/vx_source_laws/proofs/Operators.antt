@@ -1,11 +1,12 @@
 -- Operators between parentheses.
 use Rattle.std.proofs.Common.{◌≡◌, ℕ, zero, suc, ◌<◌, Bool, true, false, List, [], ◌∷◌, ◌++◌, Ok, Result, refl, ap, ◌∙◌, append_assoc, arith}
 use Rattle.std.specs.Prelude.{codes}
-use Rattle.vx_fn.specs.Functions.{Comparison, equal, not_equal, greater, greater_or_equal, less, less_or_equal, Operation, compares, and_also, or_else, adds, binary, between, like}
+use Rattle.vx_floats.specs.declared.arithmetic.Arithmetic.TheVariants.{Sum, Difference, Product, Quotient, Remainder}
+use Rattle.vx_fn.specs.Functions.{Comparison, equal, not_equal, greater, greater_or_equal, less, less_or_equal, Operation, compares, and_also, or_else, computes, binary, between, like}
 use Rattle.vx_fn.specs.Texts.{operation_text, bound_text, like_text}
 use Rattle.vx_tree.specs.Trees.{Tree, call, no_tree, tree}
 use Rattle.vx_source_types.specs.declared.expectation.Expected.{Expected}
-use Rattle.vx_source_types.specs.declared.token.Sign.TheVariants.{OpenParen, CloseParen, Equal, NotEqual, Less, LessEqual, Greater, GreaterEqual, Plus}
+use Rattle.vx_source_types.specs.declared.token.Sign.TheVariants.{OpenParen, CloseParen, Equal, NotEqual, Less, LessEqual, Greater, GreaterEqual, Plus, Minus, Star, Slash, Percent}
 use Rattle.vx_source_types.specs.Tokens.{word, sign}
 use Rattle.vx_source_types.proofs.FirstSigns.{first_open_paren, first_close_paren}
 use Rattle.vx_source_types.specs.Reading.{more, stays, leads}
@@ -45,7 +46,7 @@ abbrev waits : Operation → Tree → Frame
 waits (compares c) a = in_binary (compares c) a
 waits and_also a = in_chain and_also (a ∷ [])
 waits or_else a = in_chain or_else (a ∷ [])
-waits adds a = in_binary adds a
+waits (computes c) a = in_binary (computes c) a
 
 operator_read : (op : Operation) (a : Tree) (fs : List Frame) (r outside : ℕ) (s : ExpressionState) (bs : List ℕ) → IsBehind (in_paren outside ∷ fs) r a s
     → Goes s (32 ∷ (operation_text op ++ 32 ∷ bs)) (at (waits op a ∷ in_paren outside ∷ fs) operand_due r) (32 ∷ bs)
@@ -57,7 +58,11 @@ operator_read (compares less) a fs r outside s bs b = leads refl (b (sign Less) 
 operator_read (compares less_or_equal) a fs r outside s bs b = leads refl (b (sign LessEqual) refl) stays
 operator_read and_also a fs r outside s bs b = leads refl (b (word (codes "and")) refl) stays
 operator_read or_else a fs r outside s bs b = leads refl (b (word (codes "or")) refl) stays
-operator_read adds a fs r outside s bs b = leads refl (b (sign Plus) refl) stays
+operator_read (computes Sum) a fs r outside s bs b = leads refl (b (sign Plus) refl) stays
+operator_read (computes Difference) a fs r outside s bs b = leads refl (b (sign Minus) refl) stays
+operator_read (computes Product) a fs r outside s bs b = leads refl (b (sign Star) refl) stays
+operator_read (computes Quotient) a fs r outside s bs b = leads refl (b (sign Slash) refl) stays
+operator_read (computes Remainder) a fs r outside s bs b = leads refl (b (sign Percent) refl) stays
 
 -- two items of a chain are joined as they are
 chained_of : (op : Operation) (fs : List Frame) (r outside : ℕ) (a b : Tree) → heights_of (tree a (tree b no_tree)) < r
@@ -70,7 +75,11 @@ operands_joined : (op : Operation) (fs : List Frame) (r outside : ℕ) (a b : Tr
 operands_joined (compares c) fs r outside a b h = ap (closed fs r outside) (over_is (binary (compares c)) (tree a (tree b no_tree)) r h)
 operands_joined and_also fs r outside a b h = chained_of and_also fs r outside a b h
 operands_joined or_else fs r outside a b h = chained_of or_else fs r outside a b h
-operands_joined adds fs r outside a b h = ap (closed fs r outside) (over_is (binary adds) (tree a (tree b no_tree)) r h)
+operands_joined (computes Sum) fs r outside a b h = ap (closed fs r outside) (over_is (binary (computes Sum)) (tree a (tree b no_tree)) r h)
+operands_joined (computes Difference) fs r outside a b h = ap (closed fs r outside) (over_is (binary (computes Difference)) (tree a (tree b no_tree)) r h)
+operands_joined (computes Product) fs r outside a b h = ap (closed fs r outside) (over_is (binary (computes Product)) (tree a (tree b no_tree)) r h)
+operands_joined (computes Quotient) fs r outside a b h = ap (closed fs r outside) (over_is (binary (computes Quotient)) (tree a (tree b no_tree)) r h)
+operands_joined (computes Remainder) fs r outside a b h = ap (closed fs r outside) (over_is (binary (computes Remainder)) (tree a (tree b no_tree)) r h)
 
 pub binary_again : (op : Operation) (a b : Tree) → IsAgain a → IsAgain b → IsOwnAgain (binary op) (tree a (tree b no_tree))
 binary_again op a b k l fs zero rest h m = absurd (omega arith)

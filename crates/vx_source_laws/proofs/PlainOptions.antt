@@ -9,13 +9,14 @@ use Rattle.std.proofs.lemmas.Bool.Decides.{nat_tests}
 use Rattle.vx_value.specs.Types.{Name}
 use Rattle.vx_fn.specs.declared.options.FieldSelection.{FieldSelection}
 use Rattle.vx_fn.specs.declared.options.FieldSelection.TheVariants.{Include, Exclude}
-use Rattle.vx_fn.specs.Functions.{equal, not_equal, greater, greater_or_equal, less, less_or_equal, Operation, compares, and_also, or_else, adds, Function, case_when, get_item, pack, select, binary, between, like, selection_names}
+use Rattle.vx_floats.specs.declared.arithmetic.Arithmetic.TheVariants.{Sum, Difference, Product, Quotient, Remainder}
+use Rattle.vx_fn.specs.Functions.{equal, not_equal, greater, greater_or_equal, less, less_or_equal, Operation, compares, and_also, or_else, computes, Function, case_when, get_item, pack, select, binary, between, like, selection_names}
 use Rattle.vx_fn.specs.Texts.{bound_text, truth_text, nullability_text}
 use Rattle.vx_dtype.proofs.Choice.{yes}
 use Rattle.vx_source_types.proofs.FirstNumbers.{spelled, first_number}
 use Rattle.vx_source_types.proofs.FirstSigns.{first_comma, first_open_bracket, first_open_brace, first_close_brace, first_equal}
 use Rattle.vx_source_types.specs.Characters.{is_digit}
-use Rattle.vx_source_types.specs.declared.token.Sign.TheVariants.{OpenParen, CloseParen, OpenBracket, CloseBracket, OpenBrace, CloseBrace, Comma, Colon, Tilde, Equal, NotEqual, Less, LessEqual, Greater, GreaterEqual, Plus}
+use Rattle.vx_source_types.specs.declared.token.Sign.TheVariants.{OpenParen, CloseParen, OpenBracket, CloseBracket, OpenBrace, CloseBrace, Comma, Colon, Tilde, Equal, NotEqual, Less, LessEqual, Greater, GreaterEqual, Plus, Minus, Star, Slash, Percent}
 use Rattle.vx_source_types.specs.Tokens.{Lexeme, word, number as numeral, sign, next, first}
 use Rattle.vx_source_types.specs.Names.{names_source}
 use Rattle.vx_source_types.specs.TypeReading.{narrow_length}
@@ -53,7 +54,11 @@ binary_options (compares less) room rest = one_option (sign Less) refl refl refl
 binary_options (compares less_or_equal) room rest = one_option (sign LessEqual) refl refl refl
 binary_options and_also room rest = one_option (word (codes "and")) refl refl refl
 binary_options or_else room rest = one_option (word (codes "or")) refl refl refl
-binary_options adds room rest = one_option (sign Plus) refl refl refl
+binary_options (computes Sum) room rest = one_option (sign Plus) refl refl refl
+binary_options (computes Difference) room rest = one_option (sign Minus) refl refl refl
+binary_options (computes Product) room rest = one_option (sign Star) refl refl refl
+binary_options (computes Quotient) room rest = one_option (sign Slash) refl refl refl
+binary_options (computes Remainder) room rest = one_option (sign Percent) refl refl refl
 
 -- ---- more tokens
 

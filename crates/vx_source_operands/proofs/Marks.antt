@@ -4,7 +4,7 @@ use Rattle.std.specs.Prelude.{codes}
 use Rattle.vx_source_types.specs.declared.token.Sign.TheVariants.{CloseParen, Colon, Equal}
 use Rattle.vx_source_types.specs.Tokens.{Lexeme, sign}
 use Rattle.vx_source_grammar.specs.OptionReading.{is_keyword}
-use Rattle.vx_source_operands.specs.Parts.{assigned, behind_word, case_else, labelled, labelled_last}
+use Rattle.vx_source_operands.specs.Parts.{assigned, behind_word, case_else, is_closing, labelled, labelled_last}
 
 -- the token behind a colon, or an equals sign
 abbrev at_colon : Option (Lexeme × Lexeme × List Lexeme) → Option (Lexeme × List Lexeme)
@@ -37,14 +37,14 @@ assigned_is w (a ∷ sign Equal ∷ x ∷ xs) = sign_here at_equal refl (is_keyw
 assigned_is w (a ∷ s ∷ x ∷ xs) = no_sign at_equal refl (is_keyword w a) s x xs refl
 assigned_is w xs = refl
 
--- the token, where nothing is left behind it, or a closing parenthesis
+-- the token, where nothing is left behind it, or the closing parenthesis
 abbrev alone : Option (Lexeme × List Lexeme) → Option Lexeme
 alone (Some (x, [])) = Some x
 alone o = None
 
 abbrev enclosed : Option (Lexeme × List Lexeme) → Option Lexeme
-enclosed (Some (x, sign CloseParen ∷ [])) = Some x
-enclosed o = None
+enclosed (Some (x, xs)) = elim (is_closing xs) [ true ↦ Some x | false ↦ None ]
+enclosed None = None
 
 alone_here : (b : Bool) (x : Lexeme)
     → (elim b as (λ _. Option Lexeme) [ true ↦ Some x | false ↦ None ]) ≡ alone (elim b as (λ _. Option (Lexeme × List Lexeme)) [ true ↦ Some (x, []) | false ↦ None ])

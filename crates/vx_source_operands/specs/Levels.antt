@@ -1,7 +1,7 @@
 -- How tightly operators bind.
 use Rattle.std.specs.Prelude.{ℕ}
 use Rattle.vx_source_operands.specs.declared.frame.Level.{Level}
-use Rattle.vx_source_operands.specs.declared.frame.Level.TheVariants.{Or, And, Not, Comparison, Sum}
+use Rattle.vx_source_operands.specs.declared.frame.Level.TheVariants.{Or, And, Not, Comparison, Sum, Product}
 
 -- the loosest first
 abbrev pub rank_of : Level → ℕ
@@ -10,3 +10,4 @@ rank_of And = 2
 rank_of Not = 3
 rank_of Comparison = 4
 rank_of Sum = 5
+rank_of Product = 6

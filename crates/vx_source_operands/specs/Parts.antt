@@ -1,5 +1,5 @@
 -- Parts of options, and what is read one token after another.
-use Rattle.std.specs.Prelude.{◌≡◌, ◌≤◌, ℕ, true, false, List, [], ◌∷◌, Option, Some, None, Result, Ok, Err, codes}
+use Rattle.std.specs.Prelude.{◌≡◌, ◌≤◌, ℕ, Bool, true, false, List, [], ◌∷◌, Option, Some, None, Result, Ok, Err, codes}
 use Rattle.vx_value.specs.Types.{Name}
 use Rattle.vx_fn.specs.Functions.{Function}
 use Rattle.vx_source_types.specs.declared.error.ParseError.{ParseError}
@@ -40,6 +40,11 @@ case_inside xs = None
 abbrev pub assigned : List ℕ → List Lexeme → Option (Lexeme × List Lexeme)
 assigned w (a ∷ sign Equal ∷ x ∷ xs) = elim (is_keyword w a) [ true ↦ Some (x, xs) | false ↦ None ]
 assigned w xs = None
+
+-- whether the closing parenthesis is all that is left
+abbrev pub is_closing : List Lexeme → Bool
+is_closing (sign CloseParen ∷ []) = true
+is_closing xs = false
 
 -- the token behind the word `else` and an equals sign, where the closing parenthesis is all that is left
 abbrev pub case_else : List Lexeme → Option Lexeme

@@ -64,7 +64,7 @@ pub enum Frame {
     Chain(Operator, Vec<Operand>),
     /// `not`, which begins at that byte.
     Not(usize),
-    /// A comparison or `+` behind the left operand.
+    /// A comparison or arithmetic behind the left operand.
     Binary(Operator, Operand),
     /// `like` behind its text.
     Like(LikeOptions, Operand),
@@ -98,8 +98,10 @@ pub enum Level {
     Not,
     /// Comparisons, LIKE and ranges.
     Comparison,
-    /// `+`
+    /// `+` and `-`
     Sum,
+    /// `*`, `/` and `%`
+    Product,
 }
 
 impl Level {
@@ -112,6 +114,7 @@ impl Level {
             Level::Not => 3,
             Level::Comparison => 4,
             Level::Sum => 5,
+            Level::Product => 6,
         }
     }
 }
@@ -143,9 +146,13 @@ fn levels_of(operator: Operator) -> Levels
             in_chain: Level::And,
             between: Level::Comparison,
         },
-        Operator::Add => Levels {
+        Operator::Add | Operator::Sub => Levels {
             in_chain: Level::And,
             between: Level::Sum,
+        },
+        Operator::Mul | Operator::Div | Operator::Rem => Levels {
+            in_chain: Level::And,
+            between: Level::Product,
         },
     }
 }

@@ -5,7 +5,7 @@ ghost use Rattle.vx_fn.specs.Views.{operation_of, is_strict};
 ghost use Rattle.vx_source_grammar.specs.Following.{comparison_of};
 ghost use Rattle.vx_source_grammar.specs.OptionReading.{between_read, case_read, like_at, like_read, operation_at, operator_read, strict_at, truth_at};
 ghost use Rattle.vx_source_operands.specs.OperandViews.{lexeme_in, lexemes_of};
-ghost use Rattle.vx_source_operands.specs.Parts.{case_else, case_inside};
+ghost use Rattle.vx_source_operands.specs.Parts.{case_else, case_inside, is_closing};
 ghost use Rattle.vx_source_operands.specs.OptionViews.{binary_of, like_of, between_of, case_of};
 
 use crate::parts::{assigned, behind_comma, is_keyword, labelled, labelled_last};
@@ -46,6 +46,10 @@ pub fn comparison(sign: Sign) -> Option<Operator>
         | Sign::Question
         | Sign::Tilde
         | Sign::Plus
+        | Sign::Minus
+        | Sign::Star
+        | Sign::Slash
+        | Sign::Percent
         | Sign::Dollar => None,
     }
 }
@@ -55,6 +59,10 @@ fn operator_at(found: &Found) -> Option<Operator>
 {
     match &found.token {
         Token::Sign(Sign::Plus) => Some(Operator::Add),
+        Token::Sign(Sign::Minus) => Some(Operator::Sub),
+        Token::Sign(Sign::Star) => Some(Operator::Mul),
+        Token::Sign(Sign::Slash) => Some(Operator::Div),
+        Token::Sign(Sign::Percent) => Some(Operator::Rem),
         Token::Sign(sign) => comparison(*sign),
         Token::Word(name) => {
             if is_word(name, "and") {
@@ -170,18 +178,18 @@ fn case_inside(options: &[Found]) -> Option<&[Found]>
 fn case_else(tokens: &[Found]) -> Option<&Found>
     ensures { option_map (λ value. lexeme_in value.now) result ≡ case_else (lexemes_of tokens.now) }
 {
-    match assigned(tokens, "else")? {
-        (
-            value,
-            [
-                Found {
-                    token: Token::Sign(Sign::CloseParen),
-                    ..
-                },
-            ],
-        ) => Some(value),
-        _ => None,
-    }
+    let (value, rest) = assigned(tokens, "else")?;
+    if is_closing(rest) { Some(value) } else { None }
+}
+
+// Whether the closing parenthesis is all that is left.
+fn is_closing(tokens: &[Found]) -> bool
+    ensures { result ≡ is_closing (lexemes_of tokens.now) }
+{
+    let [only] = tokens else {
+        return false;
+    };
+    matches!(only.token, Token::Sign(Sign::CloseParen))
 }
 
 fn truth(found: &Found) -> Option<bool>

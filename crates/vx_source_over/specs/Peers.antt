@@ -3,7 +3,7 @@ use Rattle.std.specs.Prelude.{ℕ, suc, ◌*◌, ◌%◌, ◌==◌, Bool, true, 
 use Rattle.std.specs.Option.{is_some}
 use Rattle.vx_value.specs.Columns.{Constant, constant}
 use Rattle.vx_value.specs.Equality.{equal_type}
-use Rattle.vx_fn.specs.Functions.{Function, case_when, get_item, literal, pack, select, fill_null, zip, Operation, compares, and_also, or_else, adds, binary, logical_not, between, like, is_null, is_not_null, mask, cast}
+use Rattle.vx_fn.specs.Functions.{Function, case_when, get_item, literal, pack, select, fill_null, zip, Operation, compares, and_also, or_else, computes, binary, logical_not, between, like, is_null, is_not_null, mask, cast}
 use Rattle.vx_tree.specs.Nodes.{children_of, function_at, tree_at}
 use Rattle.vx_tree.specs.Trees.{Tree, root, call, Trees, no_tree, tree}
 
@@ -32,11 +32,11 @@ is_peer mask i = false
 is_peer (cast t) i = false
 
 -- whether the operation's value has the type of its operands
-abbrev pub is_sum : Operation → Bool
-is_sum (compares c) = false
-is_sum and_also = false
-is_sum or_else = false
-is_sum adds = true
+abbrev pub is_arithmetic : Operation → Bool
+is_arithmetic (compares c) = false
+is_arithmetic and_also = false
+is_arithmetic or_else = false
+is_arithmetic (computes a) = true
 
 -- whether a node of the function has the type of its peers
 abbrev pub has_type_of_peers : Function → Bool
@@ -47,7 +47,7 @@ has_type_of_peers (pack names n) = false
 has_type_of_peers (select selection) = false
 has_type_of_peers fill_null = true
 has_type_of_peers zip = true
-has_type_of_peers (binary op) = is_sum op
+has_type_of_peers (binary op) = is_arithmetic op
 has_type_of_peers logical_not = false
 has_type_of_peers (between lower_strict upper_strict) = false
 has_type_of_peers (like negated case_insensitive) = false

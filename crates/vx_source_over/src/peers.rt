@@ -3,7 +3,7 @@ ghost use Rattle.std.specs.Prelude.{◌≡◌, ℕ, option_map};
 ghost use Rattle.std.specs.Option.{is_some};
 ghost use Rattle.vx_fn.specs.Views.{function_of, operation_of};
 ghost use Rattle.vx_tree.specs.Views.{tree_of};
-ghost use Rattle.vx_source_over.specs.Peers.{is_branch, is_peer, is_sum, has_type_of_peers, literal_of, open_scalar, child_at};
+ghost use Rattle.vx_source_over.specs.Peers.{is_branch, is_peer, is_arithmetic, has_type_of_peers, literal_of, open_scalar, child_at};
 
 use vx_fn::{Operator, ScalarFnRef};
 use vx_source_parser::Places;
@@ -81,7 +81,7 @@ pub(crate) fn has_type_of_peers(scalar_fn: &ScalarFnRef) -> bool
     ensures { result ≡ has_type_of_peers (function_of scalar_fn.now) }
 {
     match scalar_fn {
-        ScalarFnRef::Binary(operator) => is_sum(*operator),
+        ScalarFnRef::Binary(operator) => is_arithmetic(*operator),
         ScalarFnRef::CaseWhen(_) | ScalarFnRef::FillNull(_) | ScalarFnRef::Zip(_) => true,
         ScalarFnRef::GetItem(_)
         | ScalarFnRef::Literal(_)
@@ -98,11 +98,11 @@ pub(crate) fn has_type_of_peers(scalar_fn: &ScalarFnRef) -> bool
 }
 
 // Whether the operator's value has the type of its operands.
-fn is_sum(operator: Operator) -> bool
-    ensures { result ≡ is_sum (operation_of operator) }
+fn is_arithmetic(operator: Operator) -> bool
+    ensures { result ≡ is_arithmetic (operation_of operator) }
 {
     match operator {
-        Operator::Add => true,
+        Operator::Add | Operator::Sub | Operator::Mul | Operator::Div | Operator::Rem => true,
         Operator::Eq
         | Operator::NotEq
         | Operator::Gt

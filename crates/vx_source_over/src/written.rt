@@ -87,8 +87,8 @@ fn read_alone(alloc: Global, text: &str, limit: usize) -> Result<Option<Placed>,
 /// `"2024-01-31"::date`, and `"12.50"` beside a `decimal(10, 2)` is 1250 units. A number beside a decimal is that number, as
 /// its text would be, and beside a floating-point number the nearest one.
 ///
-/// They take it from the other side of a comparison, of `+`, `and` and `or`, of BETWEEN and of `fill_null`, and from the
-/// other branches of CASE, `if` and `zip`: from the first of these that has a type of its own, else from what is around
+/// They take it from the other side of a comparison, of arithmetic, `and` and `or`, of BETWEEN and of `fill_null`, and from
+/// the other branches of CASE, `if` and `zip`: from the first of these that has a type of its own, else from what is around
 /// them. Refuses one that is none of that type, with the type, and one that needs a type and finds none, as `parse` does,
 /// and with `OutOfMemory`. Time is linear in the nodes.
 pub fn over(alloc: Global, written: Written, scope: &DType) -> Result<Placed, OverError>

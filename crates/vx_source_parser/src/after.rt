@@ -7,7 +7,9 @@ ghost use Rattle.vx_source_operands.specs.OperandViews.{frames_of, operand_of, s
 
 use crate::chains::{after_and, and_item, or_item};
 use crate::close::close;
-use crate::comparisons::{after_comparison, between, comparable, like, open_like, sum};
+use crate::comparisons::{
+    after_arithmetic, after_comparison, between, comparable, like, open_like,
+};
 use crate::predicates::{null_test, truth_test};
 use crate::steps::{keyword, negated, pending};
 use vx_fn::{EmptyOptions, ScalarFnRef};
@@ -16,6 +18,7 @@ use vx_source_operands::{
     Context, ExpressionStep, Frame, Mode, Operand, TypeFor, comparison, more, type_due,
 };
 use vx_source_types::{Expected, ParseError, Sign, Token, expected, refusal};
+use vx_types::Arithmetic;
 
 /// The token behind an operand that a postfix may follow.
 pub fn after_tight(
@@ -29,7 +32,17 @@ pub fn after_tight(
         Token::Sign(Sign::Dot) => Ok(more(frames, Mode::Dot(operand), context.room)),
         Token::Sign(Sign::OpenBrace) => Ok(more(frames, Mode::Selection(operand), context.room)),
         Token::Sign(Sign::DoubleColon) => Ok(type_due(context, frames, TypeFor::Cast(operand))?),
-        Token::Sign(Sign::Plus) => sum(context, frames, operand),
+        Token::Sign(Sign::Plus) => after_arithmetic(context, frames, operand, Arithmetic::Sum),
+        Token::Sign(Sign::Minus) => {
+            after_arithmetic(context, frames, operand, Arithmetic::Difference)
+        }
+        Token::Sign(Sign::Star) => after_arithmetic(context, frames, operand, Arithmetic::Product),
+        Token::Sign(Sign::Slash) => {
+            after_arithmetic(context, frames, operand, Arithmetic::Quotient)
+        }
+        Token::Sign(Sign::Percent) => {
+            after_arithmetic(context, frames, operand, Arithmetic::Remainder)
+        }
         Token::Sign(sign) => match comparison(*sign) {
             Some(operator) => after_comparison(context, frames, operand, operator),
             None => close(context, frames, operand),
@@ -80,7 +93,11 @@ pub fn after_loose(
         Token::Sign(Sign::Dot)
         | Token::Sign(Sign::OpenBrace)
         | Token::Sign(Sign::DoubleColon)
-        | Token::Sign(Sign::Plus) => Err(expected(context.found, Expected::Parens)),
+        | Token::Sign(Sign::Plus)
+        | Token::Sign(Sign::Minus)
+        | Token::Sign(Sign::Star)
+        | Token::Sign(Sign::Slash)
+        | Token::Sign(Sign::Percent) => Err(expected(context.found, Expected::Parens)),
         Token::Sign(sign) => match comparison(*sign) {
             Some(_) => Err(expected(context.found, Expected::Parens)),
             None => close(context, frames, operand),

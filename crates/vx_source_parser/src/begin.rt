@@ -82,7 +82,7 @@ fn begin_case(context: Context, mut frames: Vec<Frame>) -> Result<ExpressionStep
     Ok(more(frames, Mode::Case, less))
 }
 
-// `not` binds more loosely than a comparison and `+`, so it is no operand of theirs.
+// `not` binds more loosely than a comparison and arithmetic, so it is no operand of theirs.
 fn begin_not(context: Context, mut frames: Vec<Frame>) -> Result<ExpressionStep, ParseError>
     ensures reads { ReadsUpTo context.entry.found.now.at step_of result (not_begins (frames_of frames.items) context.entry.room) }
 {

@@ -108,6 +108,10 @@ fn is_same_chain(operator: Operator, other: Operator) -> bool
         Operator::And => matches!(other, Operator::And),
         Operator::Or => matches!(other, Operator::Or),
         Operator::Add
+        | Operator::Sub
+        | Operator::Mul
+        | Operator::Div
+        | Operator::Rem
         | Operator::Eq
         | Operator::NotEq
         | Operator::Gt

@@ -1,11 +1,13 @@
-// `+` and comparisons behind an operand, of which two don't chain but as a range.
+// Arithmetic and comparisons behind an operand, of which two don't chain but as a range.
 ghost use Rattle.std.specs.Prelude.{◌≡◌, ◌∷◌, if◌then◌else◌, List, Ok, Err, IfOk, false, option_map};
-ghost use Rattle.vx_fn.specs.Functions.{Comparison, adds, compares};
+ghost use Rattle.vx_fn.specs.Functions.{Comparison, compares, computes};
 ghost use Rattle.vx_tree.specs.Trees.{Tree};
 ghost use Rattle.vx_fn.specs.Views.{is_strict, operation_of};
 ghost use Rattle.vx_source_types.specs.declared.expectation.Expected.TheVariants.{Parens};
 ghost use Rattle.vx_source_grammar.specs.Following as grammar;
-ghost use Rattle.vx_source_grammar.specs.States.{Frame as OpenFrame, goes, in_binary, operand_due};
+ghost use Rattle.vx_source_grammar.specs.Joining.{arithmetic_level};
+ghost use Rattle.vx_source_grammar.specs.States.{Frame as OpenFrame};
+ghost use Rattle.vx_source_operands.specs.Levels.{rank_of};
 ghost use Rattle.vx_source_operands.specs.Places.{ReadsUpTo};
 ghost use Rattle.vx_source_operands.specs.OperandViews.{frame_of, frames_of, operand_of, reduced_of, step_of};
 
@@ -14,6 +16,7 @@ use std::alloc::AllocError;
 use vx_fn::{LikeOptions, Operator, StrictComparison};
 use vx_source_operands::{Context, ExpressionStep, Frame, Level, OpenRange, Operand, reduce};
 use vx_source_types::{Expected, ParseError, expected};
+use vx_types::Arithmetic;
 
 // The bound of that operator, of `<` and `<=`.
 fn bound(operator: Operator) -> Option<StrictComparison>
@@ -28,20 +31,49 @@ fn bound(operator: Operator) -> Option<StrictComparison>
         | Operator::Gte
         | Operator::And
         | Operator::Or
-        | Operator::Add => None,
+        | Operator::Add
+        | Operator::Sub
+        | Operator::Mul
+        | Operator::Div
+        | Operator::Rem => None,
     }
 }
 
-/// `+` behind an operand.
-pub(crate) fn sum(
+/// Arithmetic behind an operand.
+pub(crate) fn after_arithmetic(
     context: Context,
     frames: Vec<Frame>,
     operand: Operand,
+    arithmetic: Arithmetic,
 ) -> Result<ExpressionStep, ParseError>
-    ensures { ReadsUpTo context.entry.found.now.at step_of result (grammar.summed (frames_of frames.items) context.entry.room (operand_of operand) (λ fs lhs. goes (in_binary adds lhs ∷ fs) operand_due context.entry.room)) }
+    ensures { ReadsUpTo context.entry.found.now.at step_of result (grammar.arithmetic_goes (frames_of frames.items) context.entry.room (operand_of operand) arithmetic) }
 {
-    let (frames, lhs) = reduce(context, frames, operand, Level::Sum)?;
-    Ok(pending(frames, Frame::Binary(Operator::Add, lhs), context.room)?)
+    let (frames, lhs) = reduce(context, frames, operand, level_of(arithmetic))?;
+    let frame = Frame::Binary(operator_of(arithmetic), lhs);
+    Ok(pending(frames, frame, context.room)?)
+}
+
+// How tightly the arithmetic binds.
+fn level_of(arithmetic: Arithmetic) -> Level
+    ensures { rank_of result ≡ arithmetic_level arithmetic }
+{
+    match arithmetic {
+        Arithmetic::Sum | Arithmetic::Difference => Level::Sum,
+        Arithmetic::Product | Arithmetic::Quotient | Arithmetic::Remainder => Level::Product,
+    }
+}
+
+// Its operator.
+fn operator_of(arithmetic: Arithmetic) -> Operator
+    ensures { operation_of result ≡ computes arithmetic }
+{
+    match arithmetic {
+        Arithmetic::Sum => Operator::Add,
+        Arithmetic::Difference => Operator::Sub,
+        Arithmetic::Product => Operator::Mul,
+        Arithmetic::Quotient => Operator::Div,
+        Arithmetic::Remainder => Operator::Rem,
+    }
 }
 
 /// A comparison behind an operand.

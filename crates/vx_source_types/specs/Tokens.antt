@@ -7,7 +7,7 @@ use Rattle.hex.specs.declared.error.FromHexError.{FromHexError}
 use Rattle.vx_source_types.specs.declared.expectation.Expected.{Expected}
 use Rattle.vx_source_types.specs.declared.expectation.Expected.TheVariants.{Token, ClosingQuote, ClosingSingleQuote, ClosingBackquote, HexDigits}
 use Rattle.vx_source_types.specs.declared.token.Sign.{Sign}
-use Rattle.vx_source_types.specs.declared.token.Sign.TheVariants.{OpenParen, CloseParen, OpenBracket, CloseBracket, OpenBrace, CloseBrace, Comma, Colon, DoubleColon, Dot, Question, Tilde, Equal, DoubleEqual, NotEqual, Less, LessEqual, Greater, GreaterEqual, Plus, Dollar}
+use Rattle.vx_source_types.specs.declared.token.Sign.TheVariants.{OpenParen, CloseParen, OpenBracket, CloseBracket, OpenBrace, CloseBrace, Comma, Colon, DoubleColon, Dot, Question, Tilde, Equal, DoubleEqual, NotEqual, Less, LessEqual, Greater, GreaterEqual, Plus, Minus, Star, Slash, Percent, Dollar}
 use Rattle.vx_source_types.specs.Characters.{is_letter, is_digit, is_word, is_blank}
 
 -- what stands in a text: words, names between backquotes, whole numbers (below zero or not, their magnitude where it is
@@ -215,22 +215,34 @@ short_sign b =
                                                           elim (b == 43) [
                                                             | true ↦ Some Plus
                                                             | false ↦
-                                                                elim (b == 91) [
-                                                                  | true ↦ Some OpenBracket
+                                                                elim (b == 42) [
+                                                                  | true ↦ Some Star
                                                                   | false ↦
-                                                                      elim (b == 93) [
-                                                                        | true ↦ Some CloseBracket
+                                                                      elim (b == 47) [
+                                                                        | true ↦ Some Slash
                                                                         | false ↦
-                                                                            elim (b == 123) [
-                                                                              | true ↦ Some OpenBrace
+                                                                            elim (b == 37) [
+                                                                              | true ↦ Some Percent
                                                                               | false ↦
-                                                                                  elim (b == 125) [
-                                                                                    | true ↦ Some CloseBrace
+                                                                                  elim (b == 91) [
+                                                                                    | true ↦ Some OpenBracket
                                                                                     | false ↦
-                                                                                        elim (b == 63) [
-                                                                                          | true ↦ Some Question
+                                                                                        elim (b == 93) [
+                                                                                          | true ↦ Some CloseBracket
                                                                                           | false ↦
-                                                                                              elim (b == 126) [ true ↦ Some Tilde | false ↦ None ]
+                                                                                              elim (b == 123) [
+                                                                                                | true ↦ Some OpenBrace
+                                                                                                | false ↦
+                                                                                                    elim (b == 125) [
+                                                                                                      | true ↦ Some CloseBrace
+                                                                                                      | false ↦
+                                                                                                          elim (b == 63) [
+                                                                                                            | true ↦ Some Question
+                                                                                                            | false ↦
+                                                                                                                elim (b == 126) [ true ↦ Some Tilde | false ↦ None ]
+                                                                                                          ]
+                                                                                                    ]
+                                                                                              ]
                                                                                         ]
                                                                                   ]
                                                                             ]
@@ -282,9 +294,9 @@ abbrev pub sign_taken : Option Sign → Option Sign → List ℕ → Taken
 sign_taken None short bs = short_taken short bs
 sign_taken (Some s) short bs = (sign s, drop 1 bs)
 
--- what begins with a dash: a number below zero
+-- what begins with a dash: a number below zero, else the sign
 abbrev pub dash_taken : List ℕ → Taken
-dash_taken bs = elim (is_digit (next bs)) [ true ↦ number_taken true bs | false ↦ (invalid Token, bs) ]
+dash_taken bs = elim (is_digit (next bs)) [ true ↦ number_taken true bs | false ↦ (sign Minus, bs) ]
 
 -- a text, a name between backquotes, a number below zero or a sign, of which b is the first byte
 abbrev pub other_taken : ℕ → List ℕ → Taken

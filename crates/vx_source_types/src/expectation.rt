@@ -91,7 +91,7 @@ pub enum Expected {
     /// No operand begins there.
     #[error("expected an operand: `$`, a field, a value, a function or `(`")]
     Operand,
-    /// A `not` is no operand of a comparison or a sum without parentheses.
+    /// A `not` is no operand of a comparison or of arithmetic without parentheses.
     #[error("expected parentheses around `not`")]
     OperandOrParens,
     /// A whole expression is there.

@@ -8,7 +8,7 @@ use crate::expectation::Expected;
 use crate::number::{number_at, octets_at};
 use crate::quotes::{name_at, text_at};
 use crate::signs::{long_sign, short_sign};
-use crate::token::Token;
+use crate::token::{Sign, Token};
 use crate::words::{is_digit, is_letter, word_len, word_of};
 use std::alloc::{AllocError, Global};
 
@@ -96,7 +96,7 @@ fn dash_at(alloc: Global, bytes: &[u8]) -> Result<(Token, usize), AllocError>
     if is_digit(next(bytes)) {
         number_at(alloc, true, bytes)
     } else {
-        Ok((Token::Invalid(Expected::Token), 0))
+        Ok((Token::Sign(Sign::Minus), 0))
     }
 }
 

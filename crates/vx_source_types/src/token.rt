@@ -45,6 +45,14 @@ pub enum Sign {
     GreaterEqual,
     /// `+`
     Plus,
+    /// `-`, but before a digit, with which it is a number
+    Minus,
+    /// `*`
+    Star,
+    /// `/`
+    Slash,
+    /// `%`
+    Percent,
     /// `$`
     Dollar,
 }

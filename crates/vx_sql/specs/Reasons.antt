@@ -9,7 +9,8 @@ use Rattle.vx_literals.specs.Days.{civil_at}
 use Rattle.vx_literals.specs.Instants.{units_a_day}
 use Rattle.vx_source_types.specs.Names.{same_word}
 use Rattle.vx_value.specs.Types.{Name, number, floating, date, timestamp, LogicalType, ty, atomic, Datum, null, bool, int, float, utf8, bytes, list_of, struct_of}
-use Rattle.vx_fn.specs.Functions.{Function, case_when, get_item, literal, pack, select, fill_null, zip, Operation, compares, and_also, or_else, adds, binary, logical_not, between, like, is_null, is_not_null, mask, cast, arity_of, is_atomic}
+use Rattle.vx_floats.specs.declared.arithmetic.Arithmetic.TheVariants.{Sum}
+use Rattle.vx_fn.specs.Functions.{Function, case_when, get_item, literal, pack, select, fill_null, zip, Operation, compares, and_also, or_else, computes, binary, logical_not, between, like, is_null, is_not_null, mask, cast, arity_of, is_atomic}
 use Rattle.vx_tree.specs.Nodes.{bound_at, bound_count_of}
 use Rattle.vx_tree.specs.Trees.{BoundTrees}
 use Rattle.vx_sql.specs.declared.dialect.Dialect.{Dialect}
@@ -95,7 +96,7 @@ fill_reason bs = because (not (has_atomic_first bs && passes (λ b. is_value (li
 abbrev pub pattern_reason : BoundTrees → Option Reason
 pattern_reason bs = because (not (passes (λ b. is_some (literal_in b)) (bound_at bs 1))) PatternNotLiteral
 
--- a sum is of whole numbers: the engines' sums of decimals have more digits than ours, and those of floating-point numbers may fail
+-- a sum is of whole numbers: the engines' sums of decimals have more digits than ours, and those of floating-point numbers may fail; other arithmetic isn't written
 abbrev pub is_whole : LogicalType → Bool
 is_whole (ty (atomic (number p)) n) = true
 is_whole _ = false
@@ -105,7 +106,8 @@ abbrev pub operation_reason : LogicalType → Operation → BoundTrees → Optio
 operation_reason t (compares c) bs = because (mixes_zeros bs) FloatOrder
 operation_reason t and_also bs = None
 operation_reason t or_else bs = None
-operation_reason t adds bs = because (not (is_whole t)) UnknownFunction
+operation_reason t (computes Sum) bs = because (not (is_whole t)) UnknownFunction
+operation_reason t (computes a) bs = Some UnknownFunction
 
 abbrev pub range_reason : BoundTrees → Option Reason
 range_reason bs = because (mixes_zeros_between bs) FloatOrder

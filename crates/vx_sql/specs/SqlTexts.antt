@@ -2,7 +2,8 @@
 use Rattle.std.specs.Prelude.{ℕ, Bool, true, false, ◌&&◌, ◌||◌, ◌==◌, List, [], ◌∷◌, ◌++◌, codes, get_or, if◌then◌else◌, Option, Some, None}
 use Rattle.vx_value.specs.Columns.{Constant}
 use Rattle.vx_value.specs.Types.{Name, number, LogicalType, ty, atomic, Datum, utf8}
-use Rattle.vx_fn.specs.Functions.{equal, not_equal, greater, greater_or_equal, less, less_or_equal, Comparison, Operation, compares, and_also, or_else, adds, Function, case_when, get_item, literal, pack, select, fill_null, zip, binary, logical_not, between, like, is_null, is_not_null, mask, cast, arity_of}
+use Rattle.vx_floats.specs.declared.arithmetic.Arithmetic.TheVariants.{Sum}
+use Rattle.vx_fn.specs.Functions.{equal, not_equal, greater, greater_or_equal, less, less_or_equal, Comparison, Operation, compares, and_also, or_else, computes, Function, case_when, get_item, literal, pack, select, fill_null, zip, binary, logical_not, between, like, is_null, is_not_null, mask, cast, arity_of}
 use Rattle.vx_fn.specs.Texts.{with_commas, pairs_sql, operator_sql, bound_text}
 use Rattle.vx_tree.specs.Nodes.{bound_at, bound_count_of}
 use Rattle.vx_tree.specs.Trees.{BoundTree, scope, node, BoundTrees, no_bound, bound}
@@ -81,7 +82,8 @@ abbrev pub binary_sql : Dialect → LogicalType → Bool → Bool → Bool → O
 binary_sql d t is_text loses overlooks (compares c) a b = comparison_sql d overlooks c (compared_sql d is_text a) b
 binary_sql d t is_text loses overlooks and_also a b = logic_sql loses (codes "AND") (codes "least") a b
 binary_sql d t is_text loses overlooks or_else a b = logic_sql loses (codes "OR") (codes "greatest") a b
-binary_sql d t is_text loses overlooks adds a b = added_sql d t a b
+binary_sql d t is_text loses overlooks (computes Sum) a b = added_sql d t a b
+binary_sql d t is_text loses overlooks (computes c) a b = []
 
 -- one text below another, or not above it
 abbrev pub below_sql : Dialect → Bool → Bool → List ℕ → List ℕ → List ℕ

@@ -208,7 +208,8 @@ fn number_reason(dtype: &DType, number: i128) -> Option<Reason>
 }
 
 // A sum is of whole numbers: the engines' sums of decimals have more digits than ours, and those of
-// floating-point numbers may fail. A comparison tells -0 from 0, as no engine does.
+// floating-point numbers may fail. Other arithmetic isn't written. A comparison tells -0 from 0, as
+// no engine does.
 fn operation_reason(
     dtype: &DType,
     operator: Operator,
@@ -219,7 +220,9 @@ fn operation_reason(
     match operator {
         Operator::And | Operator::Or => None,
         Operator::Add if is_whole(dtype) => None,
-        Operator::Add => Some(Reason::UnknownFunction),
+        Operator::Add | Operator::Sub | Operator::Mul | Operator::Div | Operator::Rem => {
+            Some(Reason::UnknownFunction)
+        }
         _ if mixes_zeros(operands) => Some(Reason::FloatOrder),
         _ => None,
     }

@@ -32,6 +32,10 @@ fn leads_to(node: &BoundExpression, index: usize) -> bool {
         Some(
             ScalarFnRef::Binary(
                 Operator::Add
+                | Operator::Sub
+                | Operator::Mul
+                | Operator::Div
+                | Operator::Rem
                 | Operator::Eq
                 | Operator::NotEq
                 | Operator::Lt

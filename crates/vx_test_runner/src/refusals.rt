@@ -22,7 +22,8 @@ impl fmt::Display for Named<'_> {
             }
             VortexError::AddOverflow { row }
             | VortexError::CastNull { row }
-            | VortexError::RowMisfit { row } => write!(f, "{name}({row})"),
+            | VortexError::RowMisfit { row }
+            | VortexError::DivisionByZero { row } => write!(f, "{name}({row})"),
             _ => f.write_str(name),
         }
     }
@@ -49,6 +50,7 @@ pub fn name_of(refusal: &VortexError) -> &'static str {
         VortexError::PartitionNameTaken(_) => "PartitionNameTaken",
         VortexError::RowMisfit { .. } => "RowMisfit",
         VortexError::LengthMismatch => "LengthMismatch",
+        VortexError::DivisionByZero { .. } => "DivisionByZero",
     }
 }
 
@@ -98,6 +100,7 @@ fn counted(name: &str, said: &str) -> Option<VortexError> {
         "AddOverflow" => Some(VortexError::AddOverflow { row: number }),
         "CastNull" => Some(VortexError::CastNull { row: number }),
         "RowMisfit" => Some(VortexError::RowMisfit { row: number }),
+        "DivisionByZero" => Some(VortexError::DivisionByZero { row: number }),
         _ => None,
     }
 }

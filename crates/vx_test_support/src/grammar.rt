@@ -128,8 +128,12 @@ const TRUTHS: [&str; 34] = [
     "cast(T1 as bool?)",
 ];
 
-const NUMBERS: [&str; 6] = [
+const NUMBERS: [&str; 10] = [
     "(N1 + #n)",
+    "(N1 - N2)",
+    "(N1 * #n)",
+    "(N1 / #n)",
+    "(N1 % #n)",
     "P1.x",
     "P1.y",
     "fill_null(N1, #n)",
@@ -137,15 +141,19 @@ const NUMBERS: [&str; 6] = [
     "cast(N1 as i32?)",
 ];
 
-const FLOATS: [&str; 4] = [
+const FLOATS: [&str; 7] = [
     "(F1 + #f)",
     "(F1 + F2)",
+    "(F1 - F2)",
+    "(F1 * #f)",
+    "(F1 / F2)",
     "fill_null(F1, #f)",
     "cast(F1 as f64?)",
 ];
 
-const DECIMALS: [&str; 3] = [
+const DECIMALS: [&str; 4] = [
     "(C1 + #c)",
+    "(C1 - C2)",
     "fill_null(C1, #c)",
     "cast(C1 as decimal(6, 2)?)",
 ];

@@ -1,5 +1,5 @@
 -- The same of whole trees.
-use Rattle.std.proofs.Common.{◌≡◌, inl, inr, ◌+◌, ◌≤◌, List, [], ◌∷◌, length, refl, sym, ap, subst, Bool, true, false, arith, map}
+use Rattle.std.proofs.Common.{◌≡◌, inl, inr, ◌+◌, ◌≤◌, List, [], ◌∷◌, length, refl, sym, ap, subst, Bool, true, false, arith, map, get_or}
 use Rattle.std.specs.Prelude.{Option, Some, None, not, cond, position, nat_lt}
 use Rattle.std.specs.List.{list_any, list_all, position_or_len, prefix_len}
 use Rattle.std.specs.Option.{option_or, option_map}
@@ -9,11 +9,11 @@ use Rattle.vx_fn.proofs.Sound.{IsSafe, fn_value-fits}
 use Rattle.vx_value.specs.Types.{LogicalType, Datum, is_null_datum}
 use Rattle.vx_value.specs.Fits.{Fits, EachFits}
 use Rattle.vx_dtype.specs.Lists.{forall2_nil, forall2_cons, IsIn}
-use Rattle.vx_fn.specs.Functions.{Function, binary, adds, cast, fill_null}
+use Rattle.vx_fn.specs.Functions.{Function, binary, computes, cast, fill_null}
 use Rattle.vx_tree.specs.Meaning.{value, values}
 use Rattle.vx_dtype.specs.declared.error.VortexError.{VortexError}
-use Rattle.vx_dtype.specs.declared.error.VortexError.TheVariants.{AddOverflow, CastNull}
-use Rattle.vx_fn.specs.Faults.{overflows, misfits, fill_of, when, node_fault}
+use Rattle.vx_dtype.specs.declared.error.VortexError.TheVariants.{CastNull}
+use Rattle.vx_fn.specs.Faults.{has_fault, row_fault, misfits, fill_of, when, node_fault}
 use Rattle.vx_tree.specs.Faults.{each_fault, HasNoFault}
 use Rattle.vx_tree.specs.Trees.{BoundTree, scope, node, BoundTrees, no_bound, bound, node_type, node_types, WellTyped, EachWellTyped, Over, EachOver}
 
@@ -68,7 +68,7 @@ when_none false x e = refl
 -- ---- a node that doesn't fault on a batch is safe at each row
 
 pub row_safe : (f : Function) (ts : List LogicalType) (rows : List (List Datum)) (row : List Datum) → node_fault f ts rows ≡ None → IsIn row rows → IsSafe f ts row
-row_safe (binary adds) ts rows row e i = none_passes (overflows ts) rows row (map_none AddOverflow _ e) i
+row_safe (binary (computes a)) ts rows row e i = none_passes (has_fault a ts) rows row (map_none (λ n. row_fault a (get_or rows n []) n) _ e) i
 row_safe (cast t) ts rows row e i = none_passes (misfits t) rows row (map_none CastNull _ e) i
 row_safe fill_null ts rows row e i =
     let a = or_parts _ _ (when_none _ _ e) in

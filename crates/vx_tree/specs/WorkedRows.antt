@@ -6,7 +6,8 @@ use Rattle.vx_dtype.specs.declared.error.VortexError.TheVariants.{ArityMismatch,
 use Rattle.vx_value.specs.Types.{truth, number, LogicalType, ty, atomic, struct, no_field, field, Datum, null, bool, utf8, struct_of, no_datum}
 use Rattle.vx_value.specs.Columns.{first_misfit}
 use Rattle.vx_fn.specs.declared.options.FieldSelection.TheVariants.{Include, Exclude}
-use Rattle.vx_fn.specs.Functions.{case_when, get_item, pack, select, fill_null, zip, between, like, is_null, compares, and_also, adds, equal, greater, greater_or_equal, less_or_equal}
+use Rattle.vx_floats.specs.declared.arithmetic.Arithmetic.TheVariants.{Sum}
+use Rattle.vx_fn.specs.Functions.{case_when, get_item, pack, select, fill_null, zip, between, like, is_null, compares, and_also, computes, equal, greater, greater_or_equal, less_or_equal}
 use Rattle.vx_tree.specs.Examples.{i8, i32, i32_or_null, bool_or_null, utf8_type, struct_type, with_x, row_of, row_of_two, number_of, one, two, three, col, x, lit, lit_i32, lit_text, operated}
 use Rattle.vx_tree.specs.Harness.{harness_type}
 use Rattle.vx_tree.specs.Binding.{binding}
@@ -109,13 +110,13 @@ Row12 = Refuses (operated (compares equal) (col (codes "a")) (lit_text (codes "n
 -- ---- 13: a branch that isn't chosen faults all the same, but not in no rows
 
 abbrev pub sum_out_of_range : Tree
-sum_out_of_range = operated adds (lit i8 (number_of 127)) (lit i8 (number_of 1))
+sum_out_of_range = operated (computes Sum) (lit i8 (number_of 127)) (lit i8 (number_of 1))
 
 abbrev pub unchosen_sum : Tree
 unchosen_sum = call (case_when 1 true) (three (lit (ty (atomic truth) false) (bool false)) sum_out_of_range (lit i8 (number_of 0)))
 
 abbrev pub null_sum : Tree
-null_sum = operated adds (lit (ty (atomic (number I8)) true) null) (lit i8 (number_of 1))
+null_sum = operated (computes Sum) (lit (ty (atomic (number I8)) true) null) (lit i8 (number_of 1))
 
 abbrev pub Row13 : Type 0
 Row13 = Faults unchosen_sum i8 (number_of 0 ∷ []) (Some (AddOverflow 0))

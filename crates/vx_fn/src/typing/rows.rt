@@ -4,13 +4,13 @@ ghost use Rattle.vx_value.specs.Returns.{ReturnsOrOom, Returns};
 ghost use Rattle.vx_value.specs.Fits.{Fits};
 ghost use Rattle.vx_value.specs.Types.{with_nullability};
 ghost use Rattle.vx_value.specs.Views.{admits_null, type_of};
-ghost use Rattle.vx_fn.specs.Functions.{fill_null, zip, mask as mask_function, cast, is_truth, is_text, is_number, is_atomic, truth_type, binary_type, comparison_type, logic_type, sum_type, fill_type, zip_type, not_type, between_type, like_type, mask_type, cast_type};
+ghost use Rattle.vx_fn.specs.Functions.{fill_null, zip, mask as mask_function, cast, is_truth, is_text, is_number, is_number_for, is_additive, is_atomic, truth_type, binary_type, comparison_type, logic_type, arithmetic_type, fill_type, zip_type, not_type, between_type, like_type, mask_type, cast_type};
 ghost use Rattle.vx_fn.specs.Memory.{RefusesEarly};
 ghost use Rattle.vx_fn.specs.Views.{operation_of};
 
 use crate::Operator;
 use std::alloc::Global;
-use vx_types::{DType, Nullability, Scalar, VortexError, VortexResult};
+use vx_types::{Arithmetic, DType, Nullability, Scalar, VortexError, VortexResult};
 
 // Reading the value tells that it is one of the type.
 pub(super) fn literal_dtype(scalar: &Scalar) -> VortexResult<DType>
@@ -55,7 +55,11 @@ pub(super) fn binary_dtype(operator: Operator, t: &DType, u: &DType) -> VortexRe
         | Operator::Lt
         | Operator::Lte => comparison_dtype(t, u),
         Operator::And | Operator::Or => logic_dtype(t, u),
-        Operator::Add => sum_dtype(t, u),
+        Operator::Add => arithmetic_dtype(Arithmetic::Sum, t, u),
+        Operator::Sub => arithmetic_dtype(Arithmetic::Difference, t, u),
+        Operator::Mul => arithmetic_dtype(Arithmetic::Product, t, u),
+        Operator::Div => arithmetic_dtype(Arithmetic::Quotient, t, u),
+        Operator::Rem => arithmetic_dtype(Arithmetic::Remainder, t, u),
     }
 }
 
@@ -81,10 +85,10 @@ fn logic_dtype(t: &DType, u: &DType) -> VortexResult<DType>
     Ok(truth_dtype(t.is_nullable() || u.is_nullable()))
 }
 
-fn sum_dtype(t: &DType, u: &DType) -> VortexResult<DType>
-    ensures { Returns type_of result (sum_type (type_of t.now) (type_of u.now)) }
+fn arithmetic_dtype(arithmetic: Arithmetic, t: &DType, u: &DType) -> VortexResult<DType>
+    ensures { Returns type_of result (arithmetic_type arithmetic (type_of t.now) (type_of u.now)) }
 {
-    if !(is_number(t) && is_number(u)) {
+    if !(is_number_for(arithmetic, t) && is_number_for(arithmetic, u)) {
         return Err(VortexError::NotNumeric);
     }
     if !t.eq_ignore_nullability(u) {
@@ -106,13 +110,23 @@ fn number_dtype(t: &DType, nullability: Nullability) -> VortexResult<DType>
     }
 }
 
-fn is_number(t: &DType) -> bool
-    ensures { result ≡ is_number (type_of t.now) }
+// Whether the arithmetic takes values of the type.
+fn is_number_for(arithmetic: Arithmetic, t: &DType) -> bool
+    ensures { result ≡ is_number_for arithmetic (type_of t.now) }
 {
-    matches!(
-        t,
-        DType::Primitive(_, _) | DType::Float(_, _) | DType::Decimal(_, _)
-    )
+    match t {
+        DType::Primitive(_, _) => true,
+        DType::Float(_, _) => !matches!(arithmetic, Arithmetic::Remainder),
+        DType::Decimal(_, _) => is_additive(arithmetic),
+        _ => false,
+    }
+}
+
+// Whether the arithmetic adds or subtracts.
+fn is_additive(arithmetic: Arithmetic) -> bool
+    ensures { result ≡ is_additive arithmetic }
+{
+    matches!(arithmetic, Arithmetic::Sum | Arithmetic::Difference)
 }
 
 pub(super) fn not_dtype(t: &DType) -> VortexResult<DType>

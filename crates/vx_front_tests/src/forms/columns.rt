@@ -112,6 +112,6 @@ fn trees_are_applied(rt: HostRuntime) {
     gives(
         &rt,
         over_rows(alloc, checked_add(alloc, col(alloc, "x"), col(alloc, "y"))),
-        "the sum of row 0 is out of range",
+        "the result of row 0 is out of range",
     );
 }

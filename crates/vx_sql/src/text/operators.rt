@@ -43,6 +43,7 @@ pub(super) fn write_binary<W: Write>(
             DType::Primitive(p, _) => write_sum(*p, operands, f),
             _ => Ok(()),
         },
+        Operator::Sub | Operator::Mul | Operator::Div | Operator::Rem => Ok(()),
     }
 }
 

@@ -269,9 +269,9 @@ fn is_same(one: &VortexResult<Column>, other: &VortexResult<Column>) -> bool {
 fn is_same_refusal(one: &VortexError, other: &VortexError) -> bool {
     match (one, other) {
         (VortexError::AddOverflow { row: one }, VortexError::AddOverflow { row: other })
-        | (VortexError::CastNull { row: one }, VortexError::CastNull { row: other }) => {
-            one == other
-        }
+        | (VortexError::CastNull { row: one }, VortexError::CastNull { row: other })
+        | (VortexError::DivisionByZero { row: one }, VortexError::DivisionByZero { row: other }) =>
+            { one == other }
         _ => name_of(one) == name_of(other),
     }
 }

@@ -171,6 +171,9 @@ fn is_allowed(plain: &VortexResult<Column>, answer: VortexResult<Column>) -> boo
 fn is_fault(refusal: &VortexError) -> bool {
     matches!(
         refusal,
-        VortexError::AddOverflow { .. } | VortexError::CastNull { .. } | VortexError::BadFill
+        VortexError::AddOverflow { .. }
+            | VortexError::CastNull { .. }
+            | VortexError::BadFill
+            | VortexError::DivisionByZero { .. }
     )
 }

@@ -4,7 +4,7 @@ use Rattle.vx_value.specs.Types.{null}
 use Rattle.vx_value.specs.Views.{value_of}
 use Rattle.vx_eval_masks.specs.Merges.{merged_at, EachMask}
 use Rattle.vx_eval.specs.declared.rows.Rows.TheVariants.{Owned}
-use Rattle.vx_eval.specs.Columns.{values_of, rows_view, rows_views, each_row, AllLong}
+use Rattle.vx_eval.specs.Columns.{values_of, rows_views, each_row, AllLong}
 use Rattle.vx_eval.proofs.Masked.{split, parts_pair, parts_masks, parts_columns, parts_apart, chosen_without, chosen_over, last_long, with_last, if_ok}
 use Rattle.vx_eval.proofs.choice.first_true.Goals as goal
 

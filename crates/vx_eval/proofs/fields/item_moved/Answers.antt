@@ -1,4 +1,4 @@
-use Rattle.std.proofs.Common.{◌≡◌, List, get_or, length, arith, rules, subst, refl}
+use Rattle.std.proofs.Common.{◌≡◌, get_or, arith, rules}
 use Rattle.std.proofs.lemmas.Grind.{common_steps}
 use Rattle.vx_value.specs.declared.value.Value.{the_lemmas}
 use Rattle.vx_eval.proofs.Structs.{item_taken, item_past}

@@ -1,4 +1,4 @@
-use Rattle.std.proofs.Common.{ap, length, subst, sym, Ok}
+use Rattle.std.proofs.Common.{length, subst, sym, Ok}
 use Rattle.vx_value.specs.Columns.{batch}
 use Rattle.vx_value.specs.Fits.{IsBatch}
 use Rattle.vx_value.specs.Views.{type_of}

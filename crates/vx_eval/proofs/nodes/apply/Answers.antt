@@ -22,7 +22,7 @@ returns-in-Literal c =
     at_node _ _ _ _ _ _ _ _ (ap function_of c.in-Literal.is) refl (no_columns _ c.in-Literal.scalar.value _ _ typed c.requires.number) (c.literal.ensures (node_types (bounds_of c.args.children.now)))
 
 pub binary-requires-clause-numbers : goal.binary-requires-clause-numbers
-binary-requires-clause-numbers c = λ adds. left_number _ _ _ _ adds c.first_type-in-Binary.ensures.1 (rw c.in-Binary.is at c.requires.typed)
+binary-requires-clause-numbers c = λ computes. left_number _ _ _ _ computes c.first_type-in-Binary.ensures.1 (rw c.in-Binary.is at c.requires.typed)
 
 pub returns-in-Pack : goal.returns-in-Pack
 returns-in-Pack c = at_node _ _ _ _ _ _ _ _ (ap function_of c.in-Pack.is) refl refl (c.pack.ensures c.in-Pack.field-0.names (admits_null c.in-Pack.field-0.nullability) (node_types (bounds_of c.args.children.now)))

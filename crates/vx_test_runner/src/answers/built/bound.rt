@@ -109,6 +109,10 @@ impl Constructors for OfBound<'_> {
             Operator::And => build::and(alloc, lhs, rhs),
             Operator::Or => build::or(alloc, lhs, rhs),
             Operator::Add => build::checked_add(alloc, lhs, rhs),
+            Operator::Sub => build::checked_sub(alloc, lhs, rhs),
+            Operator::Mul => build::checked_mul(alloc, lhs, rhs),
+            Operator::Div => build::checked_div(alloc, lhs, rhs),
+            Operator::Rem => build::checked_rem(alloc, lhs, rhs),
         }
     }
 

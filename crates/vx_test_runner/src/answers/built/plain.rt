@@ -91,6 +91,10 @@ impl Constructors for OfSources {
             Operator::And => vx_build::and(alloc, lhs, rhs),
             Operator::Or => vx_build::or(alloc, lhs, rhs),
             Operator::Add => vx_build::checked_add(alloc, lhs, rhs),
+            Operator::Sub => vx_build::checked_sub(alloc, lhs, rhs),
+            Operator::Mul => vx_build::checked_mul(alloc, lhs, rhs),
+            Operator::Div => vx_build::checked_div(alloc, lhs, rhs),
+            Operator::Rem => vx_build::checked_rem(alloc, lhs, rhs),
         }
     }
 
