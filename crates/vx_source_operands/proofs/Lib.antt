@@ -1,7 +1,7 @@
 pub mod Chains
-pub mod Heights
 pub mod Betweens
 pub mod Cases
+pub mod Placing
 pub mod Keywords
 pub mod Marks
 pub mod Members

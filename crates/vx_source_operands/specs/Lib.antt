@@ -1,5 +1,6 @@
 pub mod Levels
 pub mod Places
+pub mod PlacedNodes
 pub mod OperandViews
 pub mod NameParts
 pub mod Parts

@@ -8,8 +8,9 @@ ghost use Rattle.vx_source_operands.specs.OperandViews.{frame_of, frames_of, ope
 
 use crate::context::Context;
 use crate::frame::{Frame, Level, OpenRange};
-use crate::nodes::{node, node_between, node_over, repeated};
+use crate::nodes::{node, node_between, node_over};
 use crate::operand::Operand;
+use crate::repeated::{equal_again, repeated};
 use vx_fn::{BetweenOptions, EmptyOptions, Operator, ScalarFnRef};
 use vx_source_types::{Expected, ParseError, expected};
 
@@ -101,13 +102,15 @@ fn equal_to_each(
     ensures reads { ReadsUpTo context.entry.found.now.at operands_in result (equal_to (operand_of operand) context.entry.room (operands_of items.items)) }
 {
     let mut equal = Vec::with_capacity(context.alloc, items.len())?;
-    let mut operand = operand;
+    let again = repeated(&operand)?;
     let mut items = items.into_iter();
+    let Some(first) = items.next() else {
+        return Ok(equal);
+    };
+    let function = ScalarFnRef::Binary(Operator::Eq);
+    equal.push(node_between(context, function, operand, first)?)?;
     while let Some(item) = items.next() {
-        let again = repeated(context.alloc, &operand)?;
-        let function = ScalarFnRef::Binary(Operator::Eq);
-        equal.push(node_between(context, function, operand, item)?)?;
-        operand = again;
+        equal.push(equal_again(context, &again, item)?)?;
     }
     Ok(equal)
 }

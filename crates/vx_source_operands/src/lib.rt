@@ -13,6 +13,7 @@ mod options;
 mod parts;
 mod plain;
 mod refusals;
+mod repeated;
 mod scalars;
 mod state;
 mod types;

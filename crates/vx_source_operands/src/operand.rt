@@ -2,6 +2,7 @@
 ghost use Rattle.std.specs.Prelude.{◌≡◌};
 ghost use Rattle.vx_tree.specs.Views.{tree_of};
 ghost use Rattle.vx_source_grammar.specs.Nodes.{height_of};
+ghost use Rattle.vx_source_operands.specs.PlacedNodes.{IsPlaced};
 
 use vx_tree::Expression;
 
@@ -26,4 +27,5 @@ pub struct Operand {
     /// The bytes that its nodes were read from.
     pub places: Places,
     ghost counted: { height ≡ height_of (tree_of tree.value) },
+    ghost placed: { ∥ IsPlaced (tree_of tree.value) places ∥₁ },
 }

@@ -8,11 +8,16 @@ use Rattle.vx_source_types.specs.declared.error.ParseError.{ParseError}
 use Rattle.vx_source_types.specs.declared.error.ParseError.TheVariants.{OutOfMemory, Unexpected}
 use Rattle.vx_source_grammar.specs.ExpressionReading.{step_by}
 use Rattle.vx_source_grammar.specs.States.{expression_start}
+use Rattle.vx_source_operands.specs.PlacedNodes.{IsPlaced}
 use Rattle.vx_source_parser.specs.declared.whole.Placed.{Placed}
 
 -- the tree that was read
 abbrev pub tree_in : Placed → Tree
 tree_in p = tree_of p.expression
+
+-- each node of it has its place, and those of a node's children lie within the node's
+abbrev pub HasPlaces : Placed → Type 0
+HasPlaces p = ∥ IsPlaced (tree_in p) p.places ∥₁
 
 -- the text is read as both trees, as the first with one type of each literal that has none there, and as the second with
 -- another one

@@ -15,7 +15,7 @@ ghost use Rattle.vx_source_operands.specs.PlainViews.{plain_by};
 ghost use Rattle.vx_source_writer.specs.SourceTexts.{source};
 ghost use Rattle.vx_source_laws.specs.Nesting.{nesting};
 ghost use Rattle.vx_source_laws.specs.SpelledTrees.{IsSpelledTree};
-ghost use Rattle.vx_source_parser.specs.Placed.{AreReadings, StopsOpen, tree_in};
+ghost use Rattle.vx_source_parser.specs.Placed.{AreReadings, HasPlaces, StopsOpen, tree_in};
 
 use crate::step::step;
 use std::alloc::Global;
@@ -59,6 +59,7 @@ pub fn parse_with_places(alloc: Global, text: &str, limit: usize) -> Result<Plac
     ensures parses { ParsesWithin expression_step (expression_start limit) text.now tree_in result }
     ensures complete { (e : Tree) → IsRead expression_step (expression_start limit) text.now e → Gives tree_in result e }
     ensures again { (e : Tree) → IsSpelledTree e → nesting e ≤ limit → text.now ≡ source e → Gives tree_in result e }
+    ensures places { IfOk result HasPlaces }
 {
     let Operand { tree, places, .. } = read(alloc, PlainValues::Alone, text, limit)?;
     Ok(Placed {
@@ -81,6 +82,7 @@ pub struct Readings {
 /// nulls without a type, which are read.
 pub fn parse_open(alloc: Global, text: &str, limit: usize) -> Result<Readings, ParseError>
     ensures reads { IfOk result (λ both. AreReadings limit text.now (tree_of both.first.expression) (tree_of both.second)) }
+    ensures places { IfOk result (λ both. HasPlaces both.first) }
     ensures complete { (e d : Tree) → AreReadings limit text.now e d → IfErr result (λ x. x ≡ OutOfMemory) }
     ensures stops { IfErr result (StopsOpen limit text.now) }
 {
