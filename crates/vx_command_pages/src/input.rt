@@ -38,7 +38,7 @@ pub fn read_expression(alloc: Global, text: &str) -> Result<Box<Placed>, Command
 }
 
 /// What the text says before the type of the rows is known. Fails at the place where reading stops, and for want of memory.
-pub fn read_written(alloc: Global, text: &str) -> Result<Box<Written>, CommandError>
+pub fn read_written(alloc: Global, text: &str) -> Result<Box<Written<'_>>, CommandError>
     ensures written { IfOk result (λ written. IsWritten 200 text.now written.value) }
     ensures read { IfOk result (λ _. IsReadOpen 200 text.now) }
     ensures error { IfErr result (λ c. IsUnreadOver text.now c) }
@@ -56,11 +56,11 @@ pub fn read_written(alloc: Global, text: &str) -> Result<Box<Written>, CommandEr
 /// stands beside, or that has none, and for want of memory.
 pub fn read_over(
     alloc: Global,
-    written: Box<Written>,
+    written: Box<Written<'_>>,
     scope: &DType,
 ) -> Result<Box<Placed>, CommandError>
-    ensures read { (text : List ℕ) → IsWritten 200 text written.value → IfOk result (λ placed. ReadsAs text (type_of scope.now) (tree_of placed.value.expression)) }
-    ensures error { (text : List ℕ) → IsWritten 200 text written.value → IfErr result (λ c. IsRefusedOver text (type_of scope.now) c) }
+    ensures read { (text : List ℕ) → IsWritten 200 text written.entry.value → IfOk result (λ placed. ReadsAs text (type_of scope.now) (tree_of placed.value.expression)) }
+    ensures error { (text : List ℕ) → IsWritten 200 text written.entry.value → IfErr result (λ c. IsRefusedOver text (type_of scope.now) c) }
 {
     match over(alloc, Box::into_inner(written), scope) {
         Ok(placed) => Ok(Box::new(alloc, placed)?),

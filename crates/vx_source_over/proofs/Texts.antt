@@ -14,15 +14,12 @@ use Rattle.vx_source_parser.specs.declared.whole.Placed.{Placed}
 use Rattle.vx_source_over.specs.declared.error.OverError.{OverError}
 use Rattle.vx_source_over.specs.declared.error.OverError.TheVariants.{OutOfMemory, Unexpected, Misfit}
 use Rattle.vx_source_over.specs.Laws.{TypedTextsStay, ReadingOverIsUnique}
-use Rattle.vx_source_over.specs.Reading.{ReadsAlone, ReadsOver, as_alone, as_settled, IsAlone, AreOpen, HasNoTypeAlone, HasNoReadings, RefusesReadings, RefusesOver, Refuses, Settles, GivesOver, IsUnread, IsWritten}
+use Rattle.vx_source_over.specs.Reading.{ReadsAlone, ReadsOver, as_alone, as_settled, HasNoTypeAlone, HasNoReadings, RefusesReadings, RefusesOver, ReadsOrRefuses, Refuses, Settles, GivesOver, IsUnread}
 use Rattle.vx_source_over.specs.Settling.{Refusal, misfit, unexpected, read_over}
-use Rattle.vx_source_over.specs.Views.{IsTypedAlone, SettlesOpen, over_error}
+use Rattle.vx_source_over.specs.Views.{over_error}
 use Rattle.vx_source_types.specs.declared.error.ParseError.{ParseError}
 use Rattle.vx_source_types.specs.declared.error.ParseError.TheVariants.{OutOfMemory as NoMemory, Unexpected as Stopped}
-use Rattle.vx_source_parser.specs.declared.whole.Readings.{Readings}
-use Rattle.vx_source_over.specs.declared.written.Written.{Written}
 use Rattle.vx_source_types.specs.declared.expectation.Expected.{Expected}
-use Rattle.vx_tree.specs.Views.{tree_of}
 
 -- a type is there, or a refusal
 not_both : (r : Typing) → IsOk r → IsErr r → ⊥
@@ -41,6 +38,9 @@ the_tree t u h = cc
 
 ok_or_not : (t : Tree) (r : Refusal) → ok_tree t ≡ Err r → ⊥
 ok_or_not t r h = cc
+
+not_memory : (at : ℕ) (x : Expected) → Stopped at x ≡ NoMemory → ⊥
+not_memory at x h = cc
 
 module _ (limit : ℕ) (text : List ℕ) (s : LogicalType) where
   same_readings : {e d a b : Tree} → AreReadings limit text e d → AreReadings limit text a b → read_over s e d ≡ read_over s a b
@@ -77,18 +77,17 @@ module _ (limit : ℕ) (text : List ℕ) (s : LogicalType) where
 
   -- ---- what was read, and its type
 
-  pub untyped_alone : (alone : Option Placed) → IsAlone limit text alone → IsTypedAlone s alone None → HasNoTypeAlone limit text s
-  untyped_alone None h bare = λ e k. absurd (h e k)
-  untyped_alone (Some p) h bare = λ e k. subst (λ x. IsErr (typed x s)) (read_once expression_step h k) (untyped (typed (tree_in p) s) bare)
+  -- what is read alone has a type, or nothing that is read alone has one
+  pub typed_alone : (e : Tree) → ReadsAlone limit text e → is_ok (typed e s) ≡ true → ReadsOver limit text s e
+  typed_alone e h ok = as_alone h ok
 
-  pub typed_alone : (alone : Option Placed) (p : Placed) → IsAlone limit text alone → IsTypedAlone s alone (Some p) → ReadsOver limit text s (tree_in p)
-  typed_alone None p h found = absurd found
-  typed_alone (Some o) p h found = as_alone (subst (λ x. ReadsAlone limit text (tree_in x)) found.0 h) found.1
+  pub untyped_alone : (e : Tree) → ReadsAlone limit text e → is_ok (typed e s) ≡ false → HasNoTypeAlone limit text s
+  untyped_alone e h bare = λ a k. subst (λ x. IsErr (typed x s)) (read_once expression_step h k) (untyped (typed e s) bare)
 
   -- a text without two readings
-  pub unreadable : (error : ParseError) → AreOpen limit text (Err error) → HasNoTypeAlone limit text s → RefusesOver limit text s (over_error error)
-  unreadable NoMemory h none = tt
-  unreadable (Stopped at x) h none = (none, inl h.1)
+  pub unreadable : (error : ParseError) → ((e d : Tree) → AreReadings limit text e d → error ≡ NoMemory) → HasNoTypeAlone limit text s → RefusesOver limit text s (over_error error)
+  unreadable NoMemory k none = tt
+  unreadable (Stopped at x) k none = (none, inl (λ e d r. not_memory at x (k e d r)))
 
   -- what the two readings are settled as
   pub settles : {e d : Tree} {A : Type 0} (view : A → Tree) (result : Result A OverError) → HasNoTypeAlone limit text s → AreReadings limit text e d → Settles view result (read_over s e d)
@@ -98,10 +97,6 @@ module _ (limit : ℕ) (text : List ℕ) (s : LogicalType) where
   settles {e = e} {d = d} view (Err (Unexpected at x)) none h q = (none, inr (e, d, h, q))
   settles {e = e} {d = d} view (Err (Misfit start end v t)) none h q = (none, (e, d, h, q))
 
-  pub open_reads : (readings : Result Readings ParseError) (result : Result Placed OverError) → HasNoTypeAlone limit text s → AreOpen limit text readings → SettlesOpen s readings result → MatchResult result (λ p. ReadsOver limit text s (tree_in p)) (λ e. RefusesOver limit text s e)
-  open_reads (Ok both) result none h q = settles tree_in result none h q
-  open_reads (Err error) result none h q = subst (λ r. MatchResult r (λ p. ReadsOver limit text s (tree_in p)) (λ e. RefusesOver limit text s e)) (sym q) (unreadable error h none)
-
 pub typed_texts_stay : TypedTextsStay
 typed_texts_stay limit text s e t h ok k = stays limit text s e t h ok k
 
@@ -110,22 +105,21 @@ reading_over_is_unique limit text s t u h k = unique limit text s t u h k
 
 -- ---- what was read of a text
 
-module _ (limit : ℕ) (text : List ℕ) (alone : Option Placed) (error : ParseError) (none : (e d : Tree) → AreReadings limit text e d → error ≡ NoMemory) where
-  pub kept_written : (result : Result Written ParseError) → IsAlone limit text alone → IfOk result (λ w. (w ≡ record { alone = alone; readings = Err error }) × (error ≡ NoMemory → ⊥)) → IfOk result (IsWritten limit text)
-  kept_written (Ok w) h q = let kept : IsWritten limit text (record { alone = alone; readings = Err error }) = record { alone = h; readings = (q.1, λ e d r. q.1 (none e d r)) } in subst (IsWritten limit text) (sym q.0) kept
-  kept_written (Err e) h q = tt
+-- where reading alone stops, nothing is read alone
+pub not_alone : (limit : ℕ) (text : List ℕ) (at : ℕ) (x : Expected) → ((e : Tree) → ReadsAlone limit text e → Stopped at x ≡ NoMemory) → (e : Tree) → ReadsAlone limit text e → ⊥
+not_alone limit text at x k e h = not_memory at x (k e h)
 
-  pub refused_unread : (result : Result Written ParseError) → IsAlone limit text alone → IfErr result (λ e. (e ≡ error) × ((error ≡ NoMemory) ⊎ (alone ≡ None))) → IfErr result (λ e. (e ≡ NoMemory) ⊎ IsUnread limit text)
-  refused_unread (Ok w) h q = tt
-  refused_unread (Err e) h q = go error none q.0 q.1
-    where
-      go : (error : ParseError) → ((e d : Tree) → AreReadings limit text e d → error ≡ NoMemory) → e ≡ error → (error ≡ NoMemory) ⊎ (alone ≡ None) → (e ≡ NoMemory) ⊎ IsUnread limit text
-      go NoMemory k is why = inl is
-      go (Stopped at x) k is (inl m) = cc
-      go (Stopped at x) k is (inr n) = inr (λ t r. subst (IsAlone limit text) n h t r, λ t u r. absurd (not_memory at x (k t u r)))
-        where
-          not_memory : (at : ℕ) (x : Expected) → Stopped at x ≡ NoMemory → ⊥
-          not_memory at x m = cc
+-- where the two readings stop, too, nothing is read
+pub none_read : (limit : ℕ) (text : List ℕ) (error : ParseError) → ((e : Tree) → ReadsAlone limit text e → ⊥) → ((e d : Tree) → AreReadings limit text e d → error ≡ NoMemory) → (error ≡ NoMemory) ⊎ IsUnread limit text
+none_read limit text NoMemory none k = inl refl
+none_read limit text (Stopped at x) none k = inr (none, λ e d r. not_memory at x (k e d r))
+
+-- the text that was kept is the text
+pub same_text : (limit depth : ℕ) (text kept : List ℕ) (s : LogicalType) (e : Tree) (result : Result Placed OverError) → ReadsAlone limit text e → kept ≡ text → depth ≡ limit → is_ok (typed e s) ≡ false
+    → (HasNoTypeAlone depth kept s → ReadsOrRefuses depth kept s result) → ReadsOrRefuses limit text s result
+same_text limit depth text kept s e result h is deep bare gives =
+    let none = subst (λ n. HasNoTypeAlone n kept s) (sym deep) (subst (λ t. HasNoTypeAlone limit t s) (sym is) (untyped_alone limit text s e h bare)) in
+    subst (λ t. ReadsOrRefuses limit t s result) is (subst (λ n. ReadsOrRefuses n kept s result) deep (gives none))
 
 pub unread_refused : (limit : ℕ) (text : List ℕ) (s : LogicalType) (error : ParseError) → (error ≡ NoMemory) ⊎ IsUnread limit text → RefusesOver limit text s (over_error error)
 unread_refused limit text s NoMemory why = tt

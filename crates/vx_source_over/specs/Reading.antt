@@ -1,5 +1,5 @@
 -- What a text is read as over a scope.
-use Rattle.std.specs.Prelude.{◌≡◌, ◌⊎◌, ℕ, List, Option, Some, None, Result, Ok, Err, IsOk, IsErr, MatchOption, MatchResult}
+use Rattle.std.specs.Prelude.{◌≡◌, ◌⊎◌, ℕ, List, Result, Ok, Err, IsOk, IsErr, MatchResult}
 use Rattle.vx_value.specs.Types.{LogicalType}
 use Rattle.vx_value.specs.Views.{type_of}
 use Rattle.vx_tree.specs.Trees.{Tree, typed}
@@ -9,12 +9,10 @@ use Rattle.vx_source_grammar.specs.ExpressionReading.{expression_step}
 use Rattle.vx_source_grammar.specs.States.{expression_start}
 use Rattle.vx_source_parser.specs.Placed.{AreReadings, tree_in}
 use Rattle.vx_source_parser.specs.declared.whole.Placed.{Placed}
-use Rattle.vx_source_parser.specs.declared.whole.Readings.{Readings}
-use Rattle.vx_source_types.specs.declared.error.ParseError.{ParseError}
-use Rattle.vx_source_types.specs.declared.error.ParseError.TheVariants.{OutOfMemory as NoMemory}
 use Rattle.vx_source_over.specs.declared.error.OverError.{OverError}
 use Rattle.vx_source_over.specs.declared.error.OverError.TheVariants.{OutOfMemory, Unexpected, Misfit}
 use Rattle.vx_source_over.specs.declared.written.Written.{Written}
+use Rattle.vx_source_over.specs.declared.written.Written.TheVariants.{Alone, Open}
 use Rattle.vx_source_over.specs.Settling.{Refusal, misfit, unexpected, read_over}
 
 -- the text is read as that tree where its literals stand alone
@@ -59,11 +57,7 @@ RefusesOver limit text s (Misfit start end c t) = HasNoTypeAlone limit text s ×
 abbrev pub GivesOver : {A B : Type 0} → (A → B) → Result A OverError → B → Type 0
 GivesOver view result said = MatchResult result (λ x. view x ≡ said) (λ e. e ≡ OutOfMemory)
 
--- what the text is read as where its literals stand alone, if it is read so
-abbrev pub IsAlone : ℕ → List ℕ → Option Placed → Type 0
-IsAlone limit text alone = MatchOption alone ((e : Tree) → ReadsAlone limit text e → ⊥) (λ p. ReadsAlone limit text (tree_in p))
-
--- the text is read so, or as two trees
+-- the text is read where its literals stand alone, or as two trees
 abbrev pub IsReadOpen : ℕ → List ℕ → Type 0
 IsReadOpen limit text = ((e : Tree) × ReadsAlone limit text e) ⊎ ((e : Tree) × (d : Tree) × AreReadings limit text e d)
 
@@ -71,11 +65,11 @@ IsReadOpen limit text = ((e : Tree) × ReadsAlone limit text e) ⊎ ((e : Tree) 
 abbrev pub IsUnread : ℕ → List ℕ → Type 0
 IsUnread limit text = ((e : Tree) → ReadsAlone limit text e → ⊥) × HasNoReadings limit text
 
--- the two readings of the text, if there are
-abbrev pub AreOpen : ℕ → List ℕ → Result Readings ParseError → Type 0
-AreOpen limit text readings = MatchResult readings (λ both. AreReadings limit text (tree_in both.first) (tree_of both.second)) (λ e. (e ≡ NoMemory → ⊥) × HasNoReadings limit text)
+-- the call gave what the text is read as over the scope, or refused what isn't
+abbrev pub ReadsOrRefuses : ℕ → List ℕ → LogicalType → Result Placed OverError → Type 0
+ReadsOrRefuses limit text s result = MatchResult result (λ p. ReadsOver limit text s (tree_in p)) (λ e. RefusesOver limit text s e)
 
--- that holds what the text is read as
-pub record IsWritten (limit : ℕ) (text : List ℕ) (w : Written) : Type 0 where
-  pub alone : IsAlone limit text w.alone
-  pub readings : AreOpen limit text w.readings
+-- that holds what the text is read as: alone, with the text itself, or else as two trees
+abbrev pub IsWritten : ℕ → List ℕ → Written → Type 0
+IsWritten limit text (Alone placed kept depth) = ReadsAlone limit text (tree_in placed) × (kept.now ≡ text) × (depth ≡ limit)
+IsWritten limit text (Open both) = ((e : Tree) → ReadsAlone limit text e → ⊥) × AreReadings limit text (tree_in both.first) (tree_of both.second)

@@ -6,11 +6,8 @@ use Rattle.vx_value.specs.Columns.{Constant}
 use Rattle.vx_value.specs.Types.{LogicalType}
 use Rattle.vx_fn.specs.Functions.{Function, literal, fn_type}
 use Rattle.vx_value.specs.Views.{type_of}
-use Rattle.std.specs.Result.{is_ok, result_ok}
+use Rattle.std.specs.Result.{result_ok}
 use Rattle.vx_tree.specs.Trees.{Tree, Trees, typed}
-use Rattle.vx_source_parser.specs.Placed.{tree_in}
-use Rattle.vx_source_parser.specs.declared.whole.Placed.{Placed}
-use Rattle.vx_source_parser.specs.declared.whole.Readings.{Readings}
 use Rattle.vx_tree.specs.Views.{tree_of, trees_from}
 use Rattle.vx_source_types.specs.declared.error.ParseError.{ParseError}
 use Rattle.vx_source_types.specs.declared.error.ParseError.TheVariants.{OutOfMemory as NoMemory, Unexpected as Stopped}
@@ -19,8 +16,7 @@ use Rattle.vx_source_over.specs.declared.error.OverError.TheVariants.{OutOfMemor
 use Rattle.vx_source_over.specs.declared.nodes.Settled.{Settled}
 use Rattle.vx_source_over.specs.declared.peers.Beside.{Beside}
 use Rattle.vx_source_over.specs.Peers.{is_open}
-use Rattle.vx_source_over.specs.Reading.{Settles}
-use Rattle.vx_source_over.specs.Settling.{Refusal, read_over, type_over, settled, wished}
+use Rattle.vx_source_over.specs.Settling.{Refusal, type_over, settled, wished}
 
 -- the tree that was settled
 abbrev pub settled_tree : Settled → Tree
@@ -96,15 +92,3 @@ none_of (Some t ∷ own) = false
 abbrev pub types_of : List Settled → List LogicalType
 types_of [] = []
 types_of (x ∷ xs) = put_type (option_map type_of x.dtype) (types_of xs)
-
--- what was read alone is found where it has a type over a scope of type s
-abbrev pub IsTypedAlone : LogicalType → Option Placed → Option Placed → Type 0
-IsTypedAlone s None None = Unit {0}
-IsTypedAlone s None (Some p) = ⊥
-IsTypedAlone s (Some o) None = is_ok (typed (tree_in o) s) ≡ false
-IsTypedAlone s (Some o) (Some p) = (o ≡ p) × (is_ok (typed (tree_in p) s) ≡ true)
-
--- the two readings are settled, or there are none
-abbrev pub SettlesOpen : LogicalType → Result Readings ParseError → Result Placed OverError → Type 0
-SettlesOpen s (Ok both) result = Settles tree_in result (read_over s (tree_in both.first) (tree_of both.second))
-SettlesOpen s (Err error) result = result ≡ Err (over_error error)

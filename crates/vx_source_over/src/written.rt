@@ -1,14 +1,13 @@
 // Texts that were read before their scope is known.
-ghost use Rattle.std.specs.Prelude.{◌≡◌, ◌⊎◌, ℕ, List, IfOk, IfErr, IsSome, MatchResult};
+ghost use Rattle.std.specs.Prelude.{◌≡◌, ◌⊎◌, ℕ, List, IfOk, IfErr};
 ghost use Rattle.vx_value.specs.Views.{type_of};
 ghost use Rattle.vx_tree.specs.Trees.{Tree};
 ghost use Rattle.vx_source_parser.specs.Placed.{StopsOpen, tree_in};
 ghost use Rattle.vx_source_types.specs.declared.error.ParseError.TheVariants.{OutOfMemory as NoMemory};
 ghost use Rattle.vx_tree.specs.Trees.{typed};
 ghost use Rattle.vx_tree.specs.Views.{tree_of};
-ghost use Rattle.vx_source_over.specs.Reading.{IsAlone, IsReadOpen, IsWritten, IsUnread, ReadsOver, GivesOver, RefusesOver, Settles};
+ghost use Rattle.vx_source_over.specs.Reading.{GivesOver, HasNoTypeAlone, IsReadOpen, IsUnread, IsWritten, ReadsOrRefuses, ReadsOver, RefusesOver, Settles};
 ghost use Rattle.vx_source_over.specs.Settling.{read_over};
-ghost use Rattle.vx_source_over.specs.Views.{IsTypedAlone, SettlesOpen};
 ghost use Rattle.vx_source_over.specs.declared.error.OverError.TheVariants.{OutOfMemory};
 ghost use Rattle.std.specs.Result.{is_ok};
 
@@ -23,59 +22,40 @@ use vx_types::{DType, VortexError};
 
 /// What was read of a text whose scope isn't known yet.
 #[derive(Drop)]
-pub struct Written {
-    /// The expression as its literals are read alone, if they are.
-    pub alone: Option<Placed>,
-    /// The two readings in which literals without a type have none of their own, or why there are none.
-    pub readings: Result<Readings, ParseError>,
+pub enum Written<'t> {
+    /// The expression as its literals are read alone. The text is read again where that has no type.
+    Alone {
+        /// The expression, and the bytes that its nodes were read from.
+        placed: Placed,
+        /// The text.
+        text: &'t str,
+        /// How deep it may be nested.
+        limit: usize,
+    },
+    /// Else the two readings in which literals without a type have none of their own.
+    Open(Readings),
 }
 
 /// What the text says, nested at most as deep as said, for [`over`]. Refuses a text that is no expression over any scope,
 /// with the byte where reading stopped and what would have stood right there, and with `OutOfMemory`. Time is linear in the
 /// text.
-pub fn read_open(alloc: Global, text: &str, limit: usize) -> Result<Written, ParseError>
+pub fn read_open(alloc: Global, text: &str, limit: usize) -> Result<Written<'_>, ParseError>
     ensures written { IfOk result (IsWritten limit text.now) }
     ensures read { IfOk result (λ _. IsReadOpen limit text.now) }
     ensures unread { IfErr result (λ e. (e ≡ NoMemory) ⊎ IsUnread limit text.now) }
     ensures stops { IfErr result (StopsOpen limit text.now) }
 {
-    let alone = read_alone(alloc, text, limit)?;
-    match parse_open(alloc, text, limit) {
-        Ok(readings) => Ok(Written {
-            alone,
-            readings: Ok(readings),
-        }),
-        Err(error) => without_readings(alone, error),
-    }
-}
-
-// A text that is read alone, and not as two readings; or why it isn't read.
-fn without_readings(alone: Option<Placed>, error: ParseError) -> Result<Written, ParseError>
-    ensures kept { IfOk result (λ w. (w ≡ record { alone = alone; readings = Err error }) × (error ≡ NoMemory → ⊥)) }
-    ensures alone { IfOk result (λ _. IsSome alone) }
-    ensures refused { IfErr result (λ e. (e ≡ error) × ((error ≡ NoMemory) ⊎ (alone ≡ None))) }
-{
-    match error {
-        ParseError::OutOfMemory => Err(error),
-        ParseError::Unexpected { .. } => match alone {
-            Some(placed) => Ok(Written {
-                alone: Some(placed),
-                readings: Err(error),
-            }),
-            None => Err(error),
-        },
-    }
-}
-
-// The expression as its literals are read alone, if they are.
-fn read_alone(alloc: Global, text: &str, limit: usize) -> Result<Option<Placed>, ParseError>
-    ensures alone { IfOk result (IsAlone limit text.now) }
-    ensures memory { IfErr result (λ e. e ≡ NoMemory) }
-{
     match parse_with_places(alloc, text, limit) {
-        Ok(placed) => Ok(Some(placed)),
+        Ok(placed) => Ok(Written::Alone {
+            placed,
+            text,
+            limit,
+        }),
         Err(ParseError::OutOfMemory) => Err(ParseError::OutOfMemory),
-        Err(ParseError::Unexpected { .. }) => Ok(None),
+        Err(ParseError::Unexpected { .. }) => {
+            let readings = parse_open(alloc, text, limit)?;
+            Ok(Written::Open(readings))
+        }
     }
 }
 
@@ -91,43 +71,24 @@ fn read_alone(alloc: Global, text: &str, limit: usize) -> Result<Option<Placed>,
 /// the other branches of CASE, `if` and `zip`: from the first of these that has a type of its own, else from what is around
 /// them. Refuses one that is none of that type, with the type, and one that needs a type and finds none, as `parse` does,
 /// and with `OutOfMemory`. Time is linear in the nodes.
-pub fn over(alloc: Global, written: Written, scope: &DType) -> Result<Placed, OverError>
-    ensures reads { (limit : ℕ) (text : List ℕ) → IsWritten limit text written → IfOk result (λ p. ReadsOver limit text (type_of scope.now) (tree_in p)) }
-    ensures refuses { (limit : ℕ) (text : List ℕ) → IsWritten limit text written → IfErr result (RefusesOver limit text (type_of scope.now)) }
-    ensures complete { (limit : ℕ) (text : List ℕ) (e : Tree) → IsWritten limit text written → ReadsOver limit text (type_of scope.now) e → GivesOver tree_in result e }
+pub fn over(alloc: Global, written: Written<'_>, scope: &DType) -> Result<Placed, OverError>
+    ensures reads { (limit : ℕ) (text : List ℕ) → IsWritten limit text written.entry → IfOk result (λ p. ReadsOver limit text (type_of scope.now) (tree_in p)) }
+    ensures refuses { (limit : ℕ) (text : List ℕ) → IsWritten limit text written.entry → IfErr result (RefusesOver limit text (type_of scope.now)) }
+    ensures complete { (limit : ℕ) (text : List ℕ) (e : Tree) → IsWritten limit text written.entry → ReadsOver limit text (type_of scope.now) e → GivesOver tree_in result e }
 {
-    let Written { alone, readings } = written;
-    match typed_alone(alloc, alone, scope) {
-        Ok(Some(placed)) => {
-            drop(readings);
-            Ok(placed)
-        }
-        Ok(None) => settle_open(alloc, readings, scope),
-        Err(error) => {
-            drop(readings);
-            Err(error)
-        }
-    }
-}
-
-// What was read as its literals are read alone, if it is there and has a type over the scope.
-fn typed_alone(
-    alloc: Global,
-    alone: Option<Placed>,
-    scope: &DType,
-) -> Result<Option<Placed>, OverError>
-    ensures found { IfOk result (IsTypedAlone (type_of scope.now) alone) }
-    ensures memory { IfErr result (λ e. e ≡ OutOfMemory) }
-{
-    match alone {
-        Some(placed) => {
+    match written {
+        Written::Alone {
+            placed,
+            text,
+            limit,
+        } => {
             if has_type(alloc, &placed.expression, scope)? {
-                Ok(Some(placed))
-            } else {
-                Ok(None)
+                return Ok(placed);
             }
+            drop(placed);
+            open_over(alloc, text, limit, scope)
         }
-        None => Ok(None),
+        Written::Open(readings) => settle_readings(alloc, readings, scope),
     }
 }
 
@@ -143,15 +104,11 @@ fn has_type(alloc: Global, e: &Expression, scope: &DType) -> Result<bool, OverEr
     }
 }
 
-// The tree of the two readings, if there are.
-fn settle_open(
-    alloc: Global,
-    readings: Result<Readings, ParseError>,
-    scope: &DType,
-) -> Result<Placed, OverError>
-    ensures { SettlesOpen (type_of scope.now) readings result }
+// What the text says over the scope as its two readings, if there are.
+fn open_over(alloc: Global, text: &str, limit: usize, scope: &DType) -> Result<Placed, OverError>
+    ensures { HasNoTypeAlone limit text.now (type_of scope.now) → ReadsOrRefuses limit text.now (type_of scope.now) result }
 {
-    match readings {
+    match parse_open(alloc, text, limit) {
         Ok(readings) => settle_readings(alloc, readings, scope),
         Err(error) => Err(OverError::from(error)),
     }
