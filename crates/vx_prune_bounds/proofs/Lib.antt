@@ -4,6 +4,8 @@ pub mod Contained
 pub mod Ends
 pub mod Lattice
 pub mod Sounds
+pub mod Corners
+pub mod Spanned
 pub mod Sums
 pub mod Monotone
 pub mod Bytes

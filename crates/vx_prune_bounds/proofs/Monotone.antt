@@ -1,24 +1,25 @@
 -- Bounds of operands that say more give bounds that say more.
-use Rattle.std.proofs.Common.{◌≡◌, refl, Bool, true, false, ◌&&◌, ◌||◌, not, List, [], ◌∷◌, arith}
-use Rattle.std.specs.Prelude.{ℤ, ◌+ℤ◌, ◌≤ℤ◌, Option, Some, None, if◌then◌else◌}
+use Rattle.std.proofs.Common.{◌≡◌, refl, Bool, true, false, ◌&&◌, ◌||◌, not, List, [], ◌∷◌}
+use Rattle.std.specs.Prelude.{Option, Some, None, if◌then◌else◌}
 use Rattle.std.proofs.lemmas.Bool.{and_parts, and_from, or_left, or_right}
-use Rattle.std.proofs.lemmas.Int.{ints}
 use Rattle.vx_dtype.specs.Lists.{Forall2, forall2_nil, forall2_cons}
-use Rattle.vx_value.specs.Types.{Datum, null, bool, int, float}
+use Rattle.vx_value.specs.Types.{Datum, null, bool}
 use Rattle.vx_floats.specs.declared.arithmetic.Arithmetic.{Arithmetic}
-use Rattle.vx_floats.specs.declared.arithmetic.Arithmetic.TheVariants.{Sum, Difference, Product, Quotient, Remainder}
 use Rattle.vx_fn.specs.Functions.{Operation, compares, and_also, or_else, computes, Comparison, equal, not_equal, greater, greater_or_equal, less, less_or_equal}
 use Rattle.vx_fn.specs.Values.{bound_comparison}
 use Rattle.vx_prune_bounds.specs.Order.{at_most, below}
-use Rattle.vx_prune_bounds.specs.Bounds.{Bounds, exactly, starts_within, ends_within, IsWithin, of_both, is_interval, IsProper}
+use Rattle.vx_prune_bounds.specs.Bounds.{Bounds, exactly, starts_within, ends_within, IsWithin, is_interval, IsProper}
+use Rattle.vx_prune_bounds.specs.Spans.{Side, Least, Greatest, span_end}
 use Rattle.vx_prune_bounds.specs.Truths.{Truths, MayBe, AreWithin, truths_in, truth_bounds, not_truths, and_truths, or_truths, may_fail}
 use Rattle.vx_prune_bounds.specs.Comparing.{both_known, all_at_most, all_below, surely, opposite, comparison_truths, operation_truths, between_truths}
-use Rattle.vx_prune_bounds.specs.Kernels.{nearest_below, nearest_above, of_sum, sum_bounds, open_bounds, arithmetic_bounds, only_if, not_null, fill_bounds, choice_bounds, mask_bounds, case_bounds, null_truths, shaped_as}
+use Rattle.vx_prune_bounds.specs.Kernels.{span, arithmetic_end, arithmetic_bounds, only_if, not_null, fill_bounds, choice_bounds, mask_bounds, case_bounds, null_truths, shaped_as}
 use Rattle.vx_prune_bounds.proofs.Ordered.{at_most-trans, below-wider}
 use Rattle.vx_prune_bounds.proofs.Contained.{at_either, implied, implies, within, from_within, contains-wider, within-refl, nothing-within, nothing-proper, exactly-proper}
 use Rattle.vx_prune_bounds.proofs.Lattice.{join-mono, join-proper}
 use Rattle.vx_prune_bounds.proofs.Sounds.{May, may_null, may_no, may_yes, may}
-use Rattle.vx_prune_bounds.proofs.Sums.{le_from, below-from, above-up_to, nearest_below-mono, nearest_above-mono, around}
+use Rattle.vx_prune_bounds.proofs.Corners.{Closer}
+use Rattle.vx_prune_bounds.proofs.Spanned.{Ordered, SpanWithin, closer, ends-ordered}
+use Rattle.vx_prune_bounds.proofs.Sums.{interval_of, ordered_ends, whole_starts, whole_ends, number_starts, number_ends}
 
 -- ---- the order of truths
 
@@ -190,111 +191,33 @@ between-mono ls us x x' l l' u u' e f g =
     and-mono (comparison_truths (bound_comparison ls) l x) (comparison_truths (bound_comparison ls) l' x') (comparison_truths (bound_comparison us) x u) (comparison_truths (bound_comparison us) x' u')
     (comparison-mono (bound_comparison ls) l l' x x' f e) (comparison-mono (bound_comparison us) x x' u u' e g)
 
--- ---- sums
+-- ---- arithmetic
 
-sums-up : (a b c d : ℤ) → a ≤ℤ c → b ≤ℤ d → (a +ℤ b) ≤ℤ (c +ℤ d)
-sums-up a b c d h k = omega (arith, ints)
+-- spans of bounds that may have a value, and of those that say less
+span-within : (x x' : Bounds) → IsWithin x x' → x.value ≡ true → SpanWithin (span x) (span x')
+span-within x x' e v = let p = within x x' e in record { least = whole_starts x.least x'.least (p.starts v); greatest = whole_ends x.greatest x'.greatest (p.ends v) }
 
-starts-sums : (l l' m m' : Option Datum) → starts_within l l' ≡ true → starts_within m m' ≡ true → starts_within (of_both (of_sum nearest_below) l m) (of_both (of_sum nearest_below) l' m') ≡ true
-starts-sums l None m m' e f = refl
-starts-sums l (Some x) m None e f = refl
-starts-sums (Some (int a)) (Some (int c)) (Some (int b)) (Some (int d)) e f = nearest_below-mono (c +ℤ d) (a +ℤ b) (sums-up c d a b (le_from c a e) (le_from d b f))
-starts-sums None (Some (int c)) m (Some (int d)) e f = cc
-starts-sums (Some (int a)) (Some (int c)) None (Some (int d)) e f = cc
-starts-sums (Some (int a)) (Some (int c)) (Some _) (Some (int d)) e f = cc
-starts-sums (Some _) (Some (int c)) m (Some (int d)) e f = cc
-starts-sums l (Some (int c)) m (Some _) e f = refl
-starts-sums l (Some (float c)) m (Some (float d)) e f = refl
-starts-sums l (Some (float c)) m (Some _) e f = refl
-starts-sums l (Some _) m (Some y) e f = refl
+span-ordered : (x : Bounds) → IsProper x → x.value ≡ true → Ordered (span x).least (span x).greatest
+span-ordered x p v = ordered_ends x.least x.greatest (implies _ _ p v)
 
-ends-sums : (g g' h h' : Option Datum) → ends_within g g' ≡ true → ends_within h h' ≡ true → ends_within (of_both (of_sum nearest_above) g h) (of_both (of_sum nearest_above) g' h') ≡ true
-ends-sums g None h h' e f = refl
-ends-sums g (Some x) h None e f = refl
-ends-sums (Some (int a)) (Some (int c)) (Some (int b)) (Some (int d)) e f = nearest_above-mono (a +ℤ b) (c +ℤ d) (sums-up a b c d (le_from a c e) (le_from b d f))
-ends-sums None (Some (int c)) h (Some (int d)) e f = cc
-ends-sums (Some (int a)) (Some (int c)) None (Some (int d)) e f = cc
-ends-sums (Some (int a)) (Some (int c)) (Some _) (Some (int d)) e f = cc
-ends-sums (Some _) (Some (int c)) h (Some (int d)) e f = cc
-ends-sums g (Some (int c)) h (Some _) e f = refl
-ends-sums g (Some (float c)) h (Some (float d)) e f = refl
-ends-sums g (Some (float c)) h (Some _) e f = refl
-ends-sums g (Some _) h (Some y) e f = refl
-
-sum-mono : (x x' y y' : Bounds) → IsWithin x x' → IsWithin y y' → IsWithin (sum_bounds x y) (sum_bounds x' y')
-sum-mono x x' y y' e f =
+pub arithmetic-mono : (a : Arithmetic) (x x' y y' : Bounds) → IsProper x → IsProper y → IsWithin x x' → IsWithin y y' → IsWithin (arithmetic_bounds a x y) (arithmetic_bounds a x' y')
+arithmetic-mono a x x' y y' o u e f =
     let p = within x x' e in
     let q = within y y' f in
-    from_within (sum_bounds x y) (sum_bounds x' y') (record {
+    from_within (arithmetic_bounds a x y) (arithmetic_bounds a x' y') (record {
       null = λ h. at_either x.null y.null h (λ n. or_left _ _ (p.null n)) (λ n. or_right _ _ (q.null n));
       value = λ h. let v = and_parts x.value y.value h in and_from _ _ (p.value v.0) (q.value v.1);
-      starts = λ h. let v = and_parts x.value y.value h in starts-sums x.least x'.least y.least y'.least (p.starts v.0) (q.starts v.1);
-      ends = λ h. let v = and_parts x.value y.value h in ends-sums x.greatest x'.greatest y.greatest y'.greatest (p.ends v.0) (q.ends v.1);
+      starts = λ h. number_starts (span_end a Least (span x) (span y)) (span_end a Least (span x') (span y')) (ends Least (and_parts x.value y.value h).0 (and_parts x.value y.value h).1);
+      ends = λ h. number_ends (span_end a Greatest (span x) (span y)) (span_end a Greatest (span x') (span y')) (ends Greatest (and_parts x.value y.value h).0 (and_parts x.value y.value h).1);
     })
-
-open-mono : (x x' y y' : Bounds) → IsWithin x x' → IsWithin y y' → IsWithin (open_bounds x y) (open_bounds x' y')
-open-mono x x' y y' e f =
-    let p = within x x' e in
-    let q = within y y' f in
-    from_within (open_bounds x y) (open_bounds x' y') (record {
-      null = λ h. at_either x.null y.null h (λ n. or_left _ _ (p.null n)) (λ n. or_right _ _ (q.null n));
-      value = λ h. let v = and_parts x.value y.value h in and_from _ _ (p.value v.0) (q.value v.1);
-      starts = λ _. refl;
-      ends = λ _. refl;
-    })
-
-pub arithmetic-mono : (a : Arithmetic) (x x' y y' : Bounds) → IsWithin x x' → IsWithin y y' → IsWithin (arithmetic_bounds a x y) (arithmetic_bounds a x' y')
-arithmetic-mono Sum x x' y y' e f = sum-mono x x' y y' e f
-arithmetic-mono Difference x x' y y' e f = open-mono x x' y y' e f
-arithmetic-mono Product x x' y y' e f = open-mono x x' y y' e f
-arithmetic-mono Quotient x x' y y' e f = open-mono x x' y y' e f
-arithmetic-mono Remainder x x' y y' e f = open-mono x x' y y' e f
-
-same_le : (i : ℤ) → i ≤ℤ i
-same_le i = omega (arith, ints)
-
-right_own : (g h : Option Datum) → is_interval None (of_both (of_sum nearest_above) g h) ≡ true
-right_own (Some (int a)) (Some (int b)) = around None (nearest_above (a +ℤ b)) (a +ℤ b) refl (above-up_to (a +ℤ b) (a +ℤ b) (same_le (a +ℤ b)))
-right_own None h = refl
-right_own (Some (int a)) None = refl
-right_own (Some (int a)) (Some _) = refl
-right_own (Some (float a)) (Some (float b)) = refl
-right_own (Some (float a)) (Some _) = refl
-right_own (Some _) None = refl
-right_own (Some _) (Some y) = refl
-
-left_own : (a b : ℤ) → is_interval (nearest_below (a +ℤ b)) None ≡ true
-left_own a b = around (nearest_below (a +ℤ b)) None (a +ℤ b) (below-from (a +ℤ b) (a +ℤ b) (same_le (a +ℤ b))) refl
-
-sums_interval : (l g m h : Option Datum) → is_interval l g ≡ true → is_interval m h ≡ true → is_interval (of_both (of_sum nearest_below) l m) (of_both (of_sum nearest_above) g h) ≡ true
-sums_interval (Some (int a)) (Some (int c)) (Some (int b)) (Some (int d)) e f =
-    around (nearest_below (a +ℤ b)) (nearest_above (c +ℤ d)) (a +ℤ b) (below-from (a +ℤ b) (a +ℤ b) (same_le (a +ℤ b))) (above-up_to (a +ℤ b) (c +ℤ d) (sums-up a b c d (le_from a c e) (le_from b d f)))
-sums_interval (Some (int a)) None (Some (int b)) h e f = left_own a b
-sums_interval (Some (int a)) (Some x) (Some (int b)) None e f = left_own a b
-sums_interval (Some (int a)) (Some (int c)) (Some (int b)) (Some _) e f = cc
-sums_interval (Some (int a)) (Some _) (Some (int b)) (Some y) e f = cc
-sums_interval None g m h e f = right_own g h
-sums_interval (Some (int a)) g None h e f = right_own g h
-sums_interval (Some (int a)) g (Some _) h e f = right_own g h
-sums_interval (Some (float a)) g (Some (float b)) h e f = right_own g h
-sums_interval (Some (float a)) g (Some _) h e f = right_own g h
-sums_interval (Some _) g None h e f = right_own g h
-sums_interval (Some _) g (Some y) h e f = right_own g h
-
-sum-proper : (x y : Bounds) → IsProper x → IsProper y → IsProper (sum_bounds x y)
-sum-proper x y p q = implied (x.value && y.value) (is_interval (of_both (of_sum nearest_below) x.least y.least) (of_both (of_sum nearest_above) x.greatest y.greatest)) (λ h.
-    let v = and_parts x.value y.value h in
-    sums_interval x.least x.greatest y.least y.greatest (implies _ _ p v.0) (implies _ _ q v.1))
-
-open-proper : (x y : Bounds) → IsProper (open_bounds x y)
-open-proper x y = implied (x.value && y.value) true (λ _. refl)
+  where
+    ends : (s : Side) → x.value ≡ true → y.value ≡ true → Closer s (span_end a s (span x) (span y)) (span_end a s (span x') (span y'))
+    ends s v w = closer a s (span x) (span x') (span y) (span y') (span-within x x' e v) (span-within y y' f w) (span-ordered x o v) (span-ordered y u w)
 
 pub arithmetic-proper : (a : Arithmetic) (x y : Bounds) → IsProper x → IsProper y → IsProper (arithmetic_bounds a x y)
-arithmetic-proper Sum x y p q = sum-proper x y p q
-arithmetic-proper Difference x y p q = open-proper x y
-arithmetic-proper Product x y p q = open-proper x y
-arithmetic-proper Quotient x y p q = open-proper x y
-arithmetic-proper Remainder x y p q = open-proper x y
+arithmetic-proper a x y p q = implied (x.value && y.value) (is_interval (arithmetic_end a Least x y) (arithmetic_end a Greatest x y)) (λ h.
+    let v = and_parts x.value y.value h in
+    interval_of (span_end a Least (span x) (span y)) (span_end a Greatest (span x) (span y)) (ends-ordered a (span x) (span y) (span-ordered x p v.0) (span-ordered y q v.1)))
 
 -- ---- fills, choices and null
 

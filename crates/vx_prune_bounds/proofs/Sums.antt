@@ -1,6 +1,6 @@
 -- What is computed of numbers within bounds.
-use Rattle.std.proofs.Common.{◌≡◌, ◌<◌, ◌^◌, ◌-◌, refl, Bool, true, false, ◌&&◌, not, arith}
-use Rattle.std.specs.Prelude.{ℤ, pos, negsuc, nat_lt, min, ◌+ℤ◌, ◌≤ℤ◌, ◌<ℤ◌, Option, Some, None, if◌then◌else◌, IsTrue}
+use Rattle.std.proofs.Common.{◌≡◌, refl, ap, Bool, true, false, ◌&&◌, not, arith}
+use Rattle.std.specs.Prelude.{ℤ, ◌≤ℤ◌, ◌<ℤ◌, Option, Some, None, IsTrue}
 use Rattle.std.specs.declared.cmp.Ordering.{Ordering}
 use Rattle.std.specs.declared.cmp.Ordering.TheVariants.{Less, Equal, Greater}
 use Rattle.std.specs.Cmp.{int_ranks}
@@ -9,21 +9,23 @@ use Rattle.std.specs.Float as ieee
 use Rattle.std.specs.Float.Ieee.{add, sub, mul, div}
 use Rattle.std.specs.Option.{option_map}
 use Rattle.std.specs.Ordering.{is_le, int_cmp, MatchOrdering}
-use Rattle.std.proofs.lemmas.Bool.{and_from, or_left, or_right, ltb-true}
+use Rattle.std.proofs.lemmas.Bool.{and_from, or_left, or_right}
 use Rattle.std.proofs.lemmas.Int.{ints}
-use borrow.Author.Tests.{lt-ltb}
 use Rattle.vx_dtype.specs.declared.float_type.FloatType.{FloatType}
 use Rattle.vx_floats.specs.Floats.{format_of, is_canonical, ieee_result}
 use Rattle.vx_floats.specs.declared.arithmetic.Arithmetic.{Arithmetic}
 use Rattle.vx_floats.specs.declared.arithmetic.Arithmetic.TheVariants.{Sum, Difference, Product, Quotient, Remainder}
 use Rattle.vx_floats.specs.declared.float.Float.{Float}
 use Rattle.vx_value.specs.Fits.{Fits}
-use Rattle.vx_value.specs.Types.{same_float_type, number, floating, decimals, LogicalType, ty, atomic, Datum, null, bool, int, float, utf8, bytes, list_of, struct_of}
+use Rattle.vx_value.specs.Types.{same_float_type, number, floating, decimals, LogicalType, ty, atomic, Datum, null, int, float}
 use Rattle.vx_fn.specs.Functions.{is_remainder}
 use Rattle.vx_fn.specs.Values.{computed, whole_result}
-use Rattle.vx_prune_bounds.specs.Bounds.{Bounds, is_from, is_up_to, Contains, of_both, starts_within, ends_within, is_interval}
-use Rattle.vx_prune_bounds.specs.Kernels.{nearest_below, nearest_above, of_sum, sum_bounds, open_bounds, arithmetic_bounds}
+use Rattle.vx_prune_bounds.specs.Bounds.{Bounds, is_from, is_up_to, Contains, starts_within, ends_within, is_interval}
+use Rattle.vx_prune_bounds.specs.Spans.{Side, Least, Greatest, Span, span_end}
+use Rattle.vx_prune_bounds.specs.Kernels.{whole, span, arithmetic_end, arithmetic_bounds}
 use Rattle.vx_prune_bounds.proofs.Contained.{inside, from_inside}
+use Rattle.vx_prune_bounds.proofs.Corners.{Reached, Closer}
+use Rattle.vx_prune_bounds.proofs.Spanned.{Spanned, Ordered, reached}
 
 -- ---- numbers in their order
 
@@ -43,114 +45,79 @@ from_le x y h = go (int_cmp x y) (int_ranks x y)
     go Equal k = refl
     go Greater k = absurd (omega (arith, ints))
 
--- ---- the nearest numbers of 128 bits
-
-known_from : (b : Bool) (y z : ℤ) → y ≤ℤ z → is_from (if b then Some (int y) else None) (int z) ≡ true
-known_from true y z h = from_le y z h
-known_from false y z h = refl
-
-known_up_to : (b : Bool) (y z : ℤ) → y ≤ℤ z → is_up_to (if b then Some (int z) else None) (int y) ≡ true
-known_up_to true y z h = from_le y z h
-known_up_to false y z h = refl
-
-pub below-from : (y z : ℤ) → y ≤ℤ z → is_from (nearest_below y) (int z) ≡ true
-below-from (pos n) (pos m) h = from_le (pos (min n (2 ^ 127 - 1))) (pos m) (omega (arith, ints))
-below-from (pos n) (negsuc m) h = absurd (omega (arith, ints))
-below-from (negsuc n) z h = known_from (nat_lt n (2 ^ 127)) (negsuc n) z h
-
-pub above-up_to : (y z : ℤ) → y ≤ℤ z → is_up_to (nearest_above z) (int y) ≡ true
-above-up_to y (pos n) h = known_up_to (nat_lt n (2 ^ 127)) y (pos n) h
-above-up_to (pos m) (negsuc n) h = absurd (omega (arith, ints))
-above-up_to (negsuc m) (negsuc n) h = from_le (negsuc m) (negsuc (min n (2 ^ 127 - 1))) (omega (arith, ints))
-
-pub nearest_below-mono : (y z : ℤ) → y ≤ℤ z → starts_within (nearest_below z) (nearest_below y) ≡ true
-nearest_below-mono (pos n) (pos m) h = from_le (pos (min n (2 ^ 127 - 1))) (pos (min m (2 ^ 127 - 1))) (omega (arith, ints))
-nearest_below-mono (pos n) (negsuc m) h = absurd (omega (arith, ints))
-nearest_below-mono (negsuc n) z h = go (nat_lt n (2 ^ 127)) refl
-  where
-    known : (z : ℤ) → negsuc n ≤ℤ z → n < 2 ^ 127 → starts_within (nearest_below z) (Some (int (negsuc n))) ≡ true
-    known (pos m) h k = from_le (negsuc n) (pos (min m (2 ^ 127 - 1))) (omega (arith, ints))
-    known (negsuc m) h k = rw (lt-ltb m (2 ^ 127) (omega (arith, ints))) (from_le (negsuc n) (negsuc m) h)
-
-    go : (b : Bool) → nat_lt n (2 ^ 127) ≡ b → starts_within (nearest_below z) (if b then Some (int (negsuc n)) else None) ≡ true
-    go false e = refl
-    go true e = known z h (ltb-true n (2 ^ 127) e)
-
-pub nearest_above-mono : (y z : ℤ) → y ≤ℤ z → ends_within (nearest_above y) (nearest_above z) ≡ true
-nearest_above-mono (negsuc n) (negsuc m) h = from_le (negsuc (min n (2 ^ 127 - 1))) (negsuc (min m (2 ^ 127 - 1))) (omega (arith, ints))
-nearest_above-mono (pos n) (negsuc m) h = absurd (omega (arith, ints))
-nearest_above-mono y (pos m) h = go (nat_lt m (2 ^ 127)) refl
-  where
-    known : (y : ℤ) → y ≤ℤ pos m → m < 2 ^ 127 → ends_within (nearest_above y) (Some (int (pos m))) ≡ true
-    known (negsuc n) h k = from_le (negsuc (min n (2 ^ 127 - 1))) (pos m) (omega (arith, ints))
-    known (pos n) h k = rw (lt-ltb n (2 ^ 127) (omega (arith, ints))) (from_le (pos n) (pos m) h)
-
-    go : (b : Bool) → nat_lt m (2 ^ 127) ≡ b → ends_within (nearest_above y) (if b then Some (int (pos m)) else None) ≡ true
-    go false e = refl
-    go true e = known y h (ltb-true m (2 ^ 127) e)
-
 own_end : (i : ℤ) → is_le (int_cmp i i) ≡ true
 own_end i = from_le i i (omega (arith, ints))
 
--- ends on both sides of a number are those of an interval
-pub around : (l g : Option Datum) (k : ℤ) → is_from l (int k) ≡ true → is_up_to g (int k) ≡ true → is_interval l g ≡ true
-around None None k e f = refl
-around None (Some (int c)) k e f = own_end c
-around (Some (int a)) None k e f = own_end a
-around (Some (int a)) (Some (int c)) k e f = let p = le_from a k e in let q = le_from k c f in from_le a c (omega (arith, ints))
-around (Some _) g k e f = cc
-around l (Some _) k e f = cc
+-- ---- ends that are whole numbers
 
--- ---- ends of a sum
+-- two numbers in order are the ends of an interval
+pub interval_of : (e f : Option ℤ) → Ordered e f → is_interval (option_map int e) (option_map int f) ≡ true
+interval_of None None o = refl
+interval_of None (Some b) o = own_end b
+interval_of (Some a) None o = own_end a
+interval_of (Some a) (Some b) o = from_le a b o
 
-sum_from : (i j : ℤ) (l m : Option Datum) → is_from l (int i) ≡ true → is_from m (int j) ≡ true → is_from (of_both (of_sum nearest_below) l m) (int (i +ℤ j)) ≡ true
-sum_from i j (Some (int a)) (Some (int b)) e f =
-    let h = le_from a i e in
-    let k = le_from b j f in
-    below-from (a +ℤ b) (i +ℤ j) (omega (arith, ints))
-sum_from i j None m e f = refl
-sum_from i j (Some l) None e f = refl
-sum_from i j (Some null) (Some m) e f = refl
-sum_from i j (Some (bool _)) (Some m) e f = refl
-sum_from i j (Some (float _)) (Some m) e f = cc
-sum_from i j (Some (utf8 _)) (Some m) e f = refl
-sum_from i j (Some (bytes _)) (Some m) e f = refl
-sum_from i j (Some (list_of _)) (Some m) e f = refl
-sum_from i j (Some (struct_of _)) (Some m) e f = refl
-sum_from i j (Some (int a)) (Some _) e f = refl
+pub ordered_ends : (l g : Option Datum) → is_interval l g ≡ true → Ordered (whole l) (whole g)
+ordered_ends (Some (int a)) (Some (int b)) e = le_from a b e
+ordered_ends (Some (int a)) None e = tt
+ordered_ends (Some (int a)) (Some _) e = cc
+ordered_ends None g e = tt
+ordered_ends (Some _) g e = tt
 
-sum_up_to : (i j : ℤ) (g h : Option Datum) → is_up_to g (int i) ≡ true → is_up_to h (int j) ≡ true → is_up_to (of_both (of_sum nearest_above) g h) (int (i +ℤ j)) ≡ true
-sum_up_to i j (Some (int a)) (Some (int b)) e f =
-    let h = le_from i a e in
-    let k = le_from j b f in
-    above-up_to (i +ℤ j) (a +ℤ b) (omega (arith, ints))
-sum_up_to i j None h e f = refl
-sum_up_to i j (Some g) None e f = refl
-sum_up_to i j (Some null) (Some h) e f = refl
-sum_up_to i j (Some (bool _)) (Some h) e f = refl
-sum_up_to i j (Some (float _)) (Some h) e f = cc
-sum_up_to i j (Some (utf8 _)) (Some h) e f = refl
-sum_up_to i j (Some (bytes _)) (Some h) e f = refl
-sum_up_to i j (Some (list_of _)) (Some h) e f = refl
-sum_up_to i j (Some (struct_of _)) (Some h) e f = refl
-sum_up_to i j (Some (int a)) (Some _) e f = refl
+number_from : (e : Option ℤ) (k : ℤ) → Reached Least e k → is_from (option_map int e) (int k) ≡ true
+number_from None k r = refl
+number_from (Some p) k r = from_le p k r
 
--- of a sum of floating-point numbers no end is known
-float_sum_from : (x y z : Float) (l m : Option Datum) → is_from l (float x) ≡ true → is_from (of_both (of_sum nearest_below) l m) (float z) ≡ true
-float_sum_from x y z None m e = refl
-float_sum_from x y z (Some l) None e = refl
-float_sum_from x y z (Some (float a)) (Some (float b)) e = refl
-float_sum_from x y z (Some (float a)) (Some _) e = refl
-float_sum_from x y z (Some _) (Some m) e = cc
+number_up_to : (e : Option ℤ) (k : ℤ) → Reached Greatest e k → is_up_to (option_map int e) (int k) ≡ true
+number_up_to None k r = refl
+number_up_to (Some p) k r = from_le k p r
 
-float_sum_up_to : (x y z : Float) (g h : Option Datum) → is_up_to g (float x) ≡ true → is_up_to (of_both (of_sum nearest_above) g h) (float z) ≡ true
-float_sum_up_to x y z None h e = refl
-float_sum_up_to x y z (Some g) None e = refl
-float_sum_up_to x y z (Some (float a)) (Some (float b)) e = refl
-float_sum_up_to x y z (Some (float a)) (Some _) e = refl
-float_sum_up_to x y z (Some _) (Some h) e = cc
+whole_from : (l : Option Datum) (i : ℤ) → is_from l (int i) ≡ true → Reached Least (whole l) i
+whole_from None i e = tt
+whole_from (Some (int a)) i e = le_from a i e
+whole_from (Some _) i e = tt
 
--- ---- sums
+whole_up_to : (g : Option Datum) (i : ℤ) → is_up_to g (int i) ≡ true → Reached Greatest (whole g) i
+whole_up_to None i e = tt
+whole_up_to (Some (int b)) i e = le_from i b e
+whole_up_to (Some _) i e = tt
+
+pub whole_starts : (l m : Option Datum) → starts_within l m ≡ true → Closer Least (whole l) (whole m)
+whole_starts l None e = tt
+whole_starts (Some (int a)) (Some (int b)) e = le_from b a e
+whole_starts None (Some m) e = cc
+whole_starts (Some _) (Some (int b)) e = cc
+whole_starts (Some _) (Some _) e = tt
+
+pub whole_ends : (g h : Option Datum) → ends_within g h ≡ true → Closer Greatest (whole g) (whole h)
+whole_ends g None e = tt
+whole_ends (Some (int a)) (Some (int b)) e = le_from a b e
+whole_ends None (Some h) e = cc
+whole_ends (Some _) (Some (int b)) e = cc
+whole_ends (Some _) (Some _) e = tt
+
+pub number_starts : (e f : Option ℤ) → Closer Least e f → starts_within (option_map int e) (option_map int f) ≡ true
+number_starts e None c = refl
+number_starts None (Some q) c = elim c [ ]
+number_starts (Some p) (Some q) c = from_le q p c
+
+pub number_ends : (e f : Option ℤ) → Closer Greatest e f → ends_within (option_map int e) (option_map int f) ≡ true
+number_ends e None c = refl
+number_ends None (Some q) c = elim c [ ]
+number_ends (Some p) (Some q) c = from_le p q c
+
+-- ends that leave a floating-point number in are no whole numbers
+float_from : (l : Option Datum) (p : Float) → is_from l (float p) ≡ true → whole l ≡ None
+float_from None p e = refl
+float_from (Some (float a)) p e = refl
+float_from (Some _) p e = cc
+
+float_up_to : (g : Option Datum) (p : Float) → is_up_to g (float p) ≡ true → whole g ≡ None
+float_up_to None p e = refl
+float_up_to (Some (float a)) p e = refl
+float_up_to (Some _) p e = cc
+
+-- ---- values
 
 -- a whole number or null
 pub data Numeric : Datum → Type 0 where
@@ -172,95 +139,65 @@ numeric (ty (atomic (decimals p s)) n) (int i) e f = a_number
 numeric (ty (atomic (decimals p s)) n) _ e f = cc
 numeric _ v e f = cc
 
-sum-sound : (x y : Bounds) {v w : Datum} → Numeric v → Numeric w → Contains x v → Contains y w → Contains (sum_bounds x y) (computed Sum v w)
-sum-sound x y no_number q h k = or_left x.null y.null h
-sum-sound x y (a_number {i = i}) no_number h k = or_right x.null y.null k
-sum-sound x y (a_number {i = i}) (a_number {i = j}) h k =
-    let a = inside x (int i) refl h in
-    let b = inside y (int j) refl k in
-    from_inside (sum_bounds x y) (int (i +ℤ j)) refl (record {
-      value = and_from _ _ a.value b.value;
-      from = sum_from i j x.least y.least a.from b.from;
-      up_to = sum_up_to i j x.greatest y.greatest a.up_to b.up_to;
-    })
+spanned : (x : Bounds) (i : ℤ) → Contains x (int i) → Spanned (span x) i
+spanned x i h = let p = inside x (int i) refl h in record { least = whole_from x.least i p.from; greatest = whole_up_to x.greatest i p.up_to }
 
--- two floating-point numbers of one format
-float_parts : (x y : Bounds) (p q z : Float) → Contains x (float p) → Contains y (float q) → Contains (sum_bounds x y) (float z)
-float_parts x y p q z h k =
-    let a = inside x (float p) refl h in
-    let b = inside y (float q) refl k in
-    from_inside (sum_bounds x y) (float z) refl (record {
-      value = and_from _ _ a.value b.value;
-      from = float_sum_from p q z x.least y.least a.from;
-      up_to = float_sum_up_to p q z x.greatest y.greatest a.up_to;
-    })
-
-of_format : (x y : Bounds) (f g : FloatType) (p q : Float) → IsTrue (same_float_type f g) → IsTrue (same_float_type (format_of p) f && is_canonical p) →
-    IsTrue (same_float_type (format_of q) g && is_canonical q) → Contains x (float p) → Contains y (float q) → Contains (sum_bounds x y) (computed Sum (float p) (float q))
-of_format x y FloatType.F32 FloatType.F32 (Float.F32 a) (Float.F32 b) s c d h k = float_parts x y (Float.F32 a) (Float.F32 b) _ h k
-of_format x y FloatType.F64 FloatType.F64 (Float.F64 a) (Float.F64 b) s c d h k = float_parts x y (Float.F64 a) (Float.F64 b) _ h k
-of_format _ _ _ _ _ _ s c d h k = cc
-
-float_sum-sound : (f g : FloatType) (n m : Bool) (x y : Bounds) (v w : Datum) → IsTrue (same_float_type f g) → Fits v (ty (atomic (floating f)) n) → Fits w (ty (atomic (floating g)) m) →
-    Contains x v → Contains y w → Contains (sum_bounds x y) (computed Sum v w)
-float_sum-sound f g n m x y null w s c d h k = or_left x.null y.null h
-float_sum-sound f g n m x y (float p) null s c d h k = or_right x.null y.null k
-float_sum-sound f g n m x y (float p) (float q) s c d h k = of_format x y f g p q s c d h k
-float_sum-sound f g n m x y _ _ s c d h k = cc
-
--- ---- what else is computed
-
-open-sound : (a : Arithmetic) (x y : Bounds) {v w : Datum} → Numeric v → Numeric w → Contains x v → Contains y w → Contains (open_bounds x y) (computed a v w)
-open-sound a x y no_number q h k = or_left x.null y.null h
-open-sound a x y (a_number {i = i}) no_number h k = or_right x.null y.null k
-open-sound a x y (a_number {i = i}) (a_number {i = j}) h k =
-    from_inside (open_bounds x y) (int (whole_result a i j)) refl (record {
+pub computed-sound : (a : Arithmetic) (x y : Bounds) {v w : Datum} → Numeric v → Numeric w → Contains x v → Contains y w → Contains (arithmetic_bounds a x y) (computed a v w)
+computed-sound a x y no_number q h k = or_left x.null y.null h
+computed-sound a x y (a_number {i = i}) no_number h k = or_right x.null y.null k
+computed-sound a x y (a_number {i = i}) (a_number {i = j}) h k =
+    let p = spanned x i h in
+    let q = spanned y j k in
+    from_inside (arithmetic_bounds a x y) (int (whole_result a i j)) refl (record {
       value = and_from _ _ (inside x (int i) refl h).value (inside y (int j) refl k).value;
-      from = refl;
-      up_to = refl;
+      from = number_from (span_end a Least (span x) (span y)) (whole_result a i j) (reached a Least (span x) (span y) i j p q);
+      up_to = number_up_to (span_end a Greatest (span x) (span y)) (whole_result a i j) (reached a Greatest (span x) (span y) i j p q);
     })
 
-open_parts : (x y : Bounds) (p q z : Float) → Contains x (float p) → Contains y (float q) → Contains (open_bounds x y) (float z)
-open_parts x y p q z h k =
-    from_inside (open_bounds x y) (float z) refl (record {
+-- ---- floating-point numbers
+
+-- of spans without ends no end is computed
+no_end : (a : Arithmetic) (s : Side) (x y : Span) → x.least ≡ None → x.greatest ≡ None → y.least ≡ None → span_end a s x y ≡ None
+no_end Sum Least x y e f g = rw e refl
+no_end Sum Greatest x y e f g = rw f refl
+no_end Difference Least x y e f g = rw e refl
+no_end Difference Greatest x y e f g = rw f refl
+no_end Product s x y e f g = rw e refl
+no_end Quotient s x y e f g = rw e refl
+no_end Remainder s x y e f g = rw g refl
+
+no_float_end : (a : Arithmetic) (s : Side) (x y : Bounds) (p q : Float) → Contains x (float p) → Contains y (float q) → arithmetic_end a s x y ≡ None
+no_float_end a s x y p q h k =
+    let b = inside x (float p) refl h in
+    let c = inside y (float q) refl k in
+    ap (option_map int) (no_end a s (span x) (span y) (float_from x.least p b.from) (float_up_to x.greatest p b.up_to) (float_from y.least q c.from))
+
+float_parts : (a : Arithmetic) (x y : Bounds) (p q z : Float) → Contains x (float p) → Contains y (float q) → Contains (arithmetic_bounds a x y) (float z)
+float_parts a x y p q z h k =
+    from_inside (arithmetic_bounds a x y) (float z) refl (record {
       value = and_from _ _ (inside x (float p) refl h).value (inside y (float q) refl k).value;
-      from = refl;
-      up_to = refl;
+      from = rw (no_float_end a Least x y p q h k) refl;
+      up_to = rw (no_float_end a Greatest x y p q h k) refl;
     })
 
 -- there is a result, but for the remainder
-open_result : (a : Arithmetic) (x y : Bounds) (p q : Float) (f : Format) (of : ieee.Float → Float) (c d : ieee.Float) → IsTrue (not (is_remainder a)) → Contains x (float p) → Contains y (float q) →
-    Contains (open_bounds x y) (elim (option_map of (ieee_result a f c d)) [ Some z ↦ float z | None ↦ null ])
-open_result Sum x y p q f of c d r h k = open_parts x y p q (of (add f c d)) h k
-open_result Difference x y p q f of c d r h k = open_parts x y p q (of (sub f c d)) h k
-open_result Product x y p q f of c d r h k = open_parts x y p q (of (mul f c d)) h k
-open_result Quotient x y p q f of c d r h k = open_parts x y p q (of (div f c d)) h k
-open_result Remainder x y p q f of c d r h k = cc
+float_result-in : (a : Arithmetic) (x y : Bounds) (p q : Float) (f : Format) (of : ieee.Float → Float) (c d : ieee.Float) → IsTrue (not (is_remainder a)) → Contains x (float p) → Contains y (float q) →
+    Contains (arithmetic_bounds a x y) (elim (option_map of (ieee_result a f c d)) [ Some z ↦ float z | None ↦ null ])
+float_result-in Sum x y p q f of c d r h k = float_parts Sum x y p q (of (add f c d)) h k
+float_result-in Difference x y p q f of c d r h k = float_parts Difference x y p q (of (sub f c d)) h k
+float_result-in Product x y p q f of c d r h k = float_parts Product x y p q (of (mul f c d)) h k
+float_result-in Quotient x y p q f of c d r h k = float_parts Quotient x y p q (of (div f c d)) h k
+float_result-in Remainder x y p q f of c d r h k = cc
 
-open_of_format : (a : Arithmetic) (x y : Bounds) (f g : FloatType) (p q : Float) → IsTrue (not (is_remainder a)) → IsTrue (same_float_type f g) → IsTrue (same_float_type (format_of p) f && is_canonical p) →
-    IsTrue (same_float_type (format_of q) g && is_canonical q) → Contains x (float p) → Contains y (float q) → Contains (open_bounds x y) (computed a (float p) (float q))
-open_of_format a x y FloatType.F32 FloatType.F32 (Float.F32 b) (Float.F32 c) r s d e h k = open_result a x y (Float.F32 b) (Float.F32 c) _ _ _ _ r h k
-open_of_format a x y FloatType.F64 FloatType.F64 (Float.F64 b) (Float.F64 c) r s d e h k = open_result a x y (Float.F64 b) (Float.F64 c) _ _ _ _ r h k
-open_of_format _ _ _ _ _ _ _ r s d e h k = cc
-
-open_float-sound : (a : Arithmetic) (f g : FloatType) (n m : Bool) (x y : Bounds) (v w : Datum) → IsTrue (not (is_remainder a)) → IsTrue (same_float_type f g) → Fits v (ty (atomic (floating f)) n) → Fits w (ty (atomic (floating g)) m) →
-    Contains x v → Contains y w → Contains (open_bounds x y) (computed a v w)
-open_float-sound a f g n m x y null w r s c d h k = or_left x.null y.null h
-open_float-sound a f g n m x y (float p) null r s c d h k = or_right x.null y.null k
-open_float-sound a f g n m x y (float p) (float q) r s c d h k = open_of_format a x y f g p q r s c d h k
-open_float-sound a f g n m x y _ _ r s c d h k = cc
-
-pub computed-sound : (a : Arithmetic) (x y : Bounds) {v w : Datum} → Numeric v → Numeric w → Contains x v → Contains y w → Contains (arithmetic_bounds a x y) (computed a v w)
-computed-sound Sum x y n m h k = sum-sound x y n m h k
-computed-sound Difference x y n m h k = open-sound Difference x y n m h k
-computed-sound Product x y n m h k = open-sound Product x y n m h k
-computed-sound Quotient x y n m h k = open-sound Quotient x y n m h k
-computed-sound Remainder x y n m h k = open-sound Remainder x y n m h k
+of_format : (a : Arithmetic) (x y : Bounds) (f g : FloatType) (p q : Float) → IsTrue (not (is_remainder a)) → IsTrue (same_float_type f g) → IsTrue (same_float_type (format_of p) f && is_canonical p) →
+    IsTrue (same_float_type (format_of q) g && is_canonical q) → Contains x (float p) → Contains y (float q) → Contains (arithmetic_bounds a x y) (computed a (float p) (float q))
+of_format a x y FloatType.F32 FloatType.F32 (Float.F32 b) (Float.F32 c) r s d e h k = float_result-in a x y (Float.F32 b) (Float.F32 c) _ _ _ _ r h k
+of_format a x y FloatType.F64 FloatType.F64 (Float.F64 b) (Float.F64 c) r s d e h k = float_result-in a x y (Float.F64 b) (Float.F64 c) _ _ _ _ r h k
+of_format _ _ _ _ _ _ _ r s d e h k = cc
 
 pub computed_floats-sound : (a : Arithmetic) (f g : FloatType) (n m : Bool) (x y : Bounds) (v w : Datum) → IsTrue (not (is_remainder a)) → IsTrue (same_float_type f g) → Fits v (ty (atomic (floating f)) n) → Fits w (ty (atomic (floating g)) m) →
     Contains x v → Contains y w → Contains (arithmetic_bounds a x y) (computed a v w)
-computed_floats-sound Sum f g n m x y v w r s c d h k = float_sum-sound f g n m x y v w s c d h k
-computed_floats-sound Difference f g n m x y v w r s c d h k = open_float-sound Difference f g n m x y v w r s c d h k
-computed_floats-sound Product f g n m x y v w r s c d h k = open_float-sound Product f g n m x y v w r s c d h k
-computed_floats-sound Quotient f g n m x y v w r s c d h k = open_float-sound Quotient f g n m x y v w r s c d h k
-computed_floats-sound Remainder f g n m x y v w r s c d h k = open_float-sound Remainder f g n m x y v w r s c d h k
+computed_floats-sound a f g n m x y null w r s c d h k = or_left x.null y.null h
+computed_floats-sound a f g n m x y (float p) null r s c d h k = or_right x.null y.null k
+computed_floats-sound a f g n m x y (float p) (float q) r s c d h k = of_format a x y f g p q r s c d h k
+computed_floats-sound a f g n m x y _ _ r s c d h k = cc

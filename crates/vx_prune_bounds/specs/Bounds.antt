@@ -79,7 +79,7 @@ known_or_both f (Some l) None = Some l
 known_or_both f (Some l) (Some m) = f l m
 
 -- what f gives of both, if both are known
-abbrev pub of_both : (Datum → Datum → Option Datum) → Option Datum → Option Datum → Option Datum
+abbrev pub of_both : {A B : Type 0} → (A → A → Option B) → Option A → Option A → Option B
 of_both f (Some l) (Some m) = f l m
 of_both f _ _ = None
 

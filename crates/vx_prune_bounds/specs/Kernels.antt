@@ -1,40 +1,28 @@
 -- Bounds of what functions give of values within bounds.
-use Rattle.std.specs.Prelude.{ℤ, pos, negsuc, nat_lt, min, ◌-◌, ◌^◌, Bool, false, ◌&&◌, ◌||◌, List, [], ◌∷◌, Option, Some, None, ◌+ℤ◌, if◌then◌else◌}
+use Rattle.std.specs.Prelude.{ℤ, Bool, false, ◌&&◌, ◌||◌, List, [], ◌∷◌, Option, Some, None, if◌then◌else◌, option_map}
 use Rattle.vx_floats.specs.declared.arithmetic.Arithmetic.{Arithmetic}
-use Rattle.vx_floats.specs.declared.arithmetic.Arithmetic.TheVariants.{Sum}
-use Rattle.vx_value.specs.Types.{Datum, null, int, float}
-use Rattle.vx_prune_bounds.specs.Bounds.{Bounds, bounds, nothing, exactly, of_both, join}
+use Rattle.vx_value.specs.Types.{Datum, null, int}
+use Rattle.vx_prune_bounds.specs.Bounds.{Bounds, bounds, nothing, exactly, join}
+use Rattle.vx_prune_bounds.specs.Spans.{Side, Least, Greatest, Span, span_end}
 use Rattle.vx_prune_bounds.specs.Truths.{Truths, truths, truths_in, may_fail}
 
--- the greatest number of 128 bits that is at most this one, if there is one
-abbrev pub nearest_below : ℤ → Option Datum
-nearest_below (pos n) = Some (int (pos (min n (2 ^ 127 - 1))))
-nearest_below (negsuc n) = if nat_lt n (2 ^ 127) then Some (int (negsuc n)) else None
+-- the number that an end is, if it is a whole one
+abbrev pub whole : Option Datum → Option ℤ
+whole (Some (int i)) = Some i
+whole _ = None
 
--- the least number of 128 bits that is at least this one, if there is one
-abbrev pub nearest_above : ℤ → Option Datum
-nearest_above (pos n) = if nat_lt n (2 ^ 127) then Some (int (pos n)) else None
-nearest_above (negsuc n) = Some (int (negsuc (min n (2 ^ 127 - 1))))
+-- between which whole numbers a value within the bounds lies
+abbrev pub span : Bounds → Span
+span x = record { least = whole x.least; greatest = whole x.greatest }
 
--- what f gives of the sum of two whole numbers; of floating-point numbers nothing is known, since infinity and -infinity give NaN, which is behind
--- every other one
-abbrev pub of_sum : (ℤ → Option Datum) → Datum → Datum → Option Datum
-of_sum f (int i) (int j) = f (i +ℤ j)
-of_sum f (float x) (float y) = None
-of_sum f _ _ = None
+-- the end of what is computed of two numbers, where it is known; of floating-point numbers it isn't, since infinity and -infinity give NaN, which is
+-- behind every other one
+abbrev pub arithmetic_end : Arithmetic → Side → Bounds → Bounds → Option Datum
+arithmetic_end a s x y = option_map int (span_end a s (span x) (span y))
 
--- bounds of the sum of two numbers
-abbrev pub sum_bounds : Bounds → Bounds → Bounds
-sum_bounds x y = bounds (x.null || y.null) (x.value && y.value) (of_both (of_sum nearest_below) x.least y.least) (of_both (of_sum nearest_above) x.greatest y.greatest)
-
--- whether what is computed of two values may be null or another value: its ends aren't known
-abbrev pub open_bounds : Bounds → Bounds → Bounds
-open_bounds x y = bounds (x.null || y.null) (x.value && y.value) None None
-
--- bounds of what is computed of two numbers: the ends of sums alone are known
+-- bounds of what is computed of two numbers
 abbrev pub arithmetic_bounds : Arithmetic → Bounds → Bounds → Bounds
-arithmetic_bounds Sum x y = sum_bounds x y
-arithmetic_bounds _ x y = open_bounds x y
+arithmetic_bounds a x y = bounds (x.null || y.null) (x.value && y.value) (arithmetic_end a Least x y) (arithmetic_end a Greatest x y)
 
 -- these bounds where that may be, else what no value is within
 abbrev pub only_if : Bool → Bounds → Bounds

@@ -2,6 +2,7 @@ pub mod Order
 pub mod Bounds
 pub mod Truths
 pub mod Comparing
+pub mod Spans
 pub mod Kernels
 pub mod Views
 pub mod Laws

@@ -1,13 +1,15 @@
 // Bounds of what functions give of values within bounds.
-ghost use Rattle.std.specs.Prelude.{◌≡◌, ◌+ℤ◌, option_map};
+ghost use Rattle.std.specs.Prelude.{◌≡◌, ℤ, option_map};
 ghost use Rattle.vx_value.specs.Types.{int, null};
-ghost use Rattle.vx_prune_bounds.specs.Bounds.{exactly, of_both};
-ghost use Rattle.vx_prune_bounds.specs.Kernels.{nearest_above, nearest_below, of_sum, sum_bounds, arithmetic_bounds, only_if, not_null, fill_bounds, choice_bounds, mask_bounds, null_truths, shaped_as};
+ghost use Rattle.vx_fn.specs.Values.{computed};
+ghost use Rattle.vx_prune_bounds.specs.Bounds.{exactly, Contains};
+ghost use Rattle.vx_prune_bounds.specs.Kernels.{whole, span, arithmetic_bounds, only_if, not_null, fill_bounds, choice_bounds, mask_bounds, null_truths, shaped_as};
 ghost use Rattle.vx_prune_bounds.specs.Truths.{truths_in, truth_bounds};
 ghost use Rattle.vx_prune_bounds.specs.Views.{endpoint_value, bounds_view};
 
 use crate::bounds::Bounds;
 use crate::endpoint::Endpoint;
+use crate::spans::{Side, Span, span_end};
 use crate::truths::Truths;
 use vx_types::Arithmetic;
 
@@ -86,6 +88,16 @@ impl<'a> Bounds<'a> {
         }
     }
 
+    // Between which whole numbers a value within these bounds lies.
+    fn span(&self) -> Span
+        ensures { result ≡ span (bounds_view self.now) }
+    {
+        Span {
+            least: whole(self.least),
+            greatest: whole(self.greatest),
+        }
+    }
+
     /// The bounds of a value that is null where a value within these is, with no ends. Takes no
     /// memory.
     pub fn shaped_as(&self) -> Bounds<'a>
@@ -100,81 +112,42 @@ impl<'a> Bounds<'a> {
     }
 }
 
-/// Bounds of what is computed of two numbers: the ends of sums alone are known. Takes no memory.
+/// Bounds of what is computed of two numbers. The ends of whole numbers and of decimals, by their
+/// units, are known as far as the operands' are: of a sum or a difference each by one end of both, of
+/// a product or a quotient by all four, and of a remainder by those of the divisor. Where the divisor
+/// may be zero no end is known, and none is of floating-point numbers. An end beyond 128 bits is cut to
+/// them, or isn't known. Of a row that faults, as one with a result outside of its type, nothing is
+/// said. Takes no memory.
 pub fn arithmetic_bounds<'a>(arithmetic: Arithmetic, x: &Bounds, y: &Bounds) -> Bounds<'a>
-    ensures { bounds_view result ≡ arithmetic_bounds arithmetic (bounds_view x.now) (bounds_view y.now) }
+    ensures exact { bounds_view result ≡ arithmetic_bounds arithmetic (bounds_view x.now) (bounds_view y.now) }
+    ensures hold { (i j : ℤ) → Contains (bounds_view x.now) (int i) → Contains (bounds_view y.now) (int j) → Contains (bounds_view result) (computed arithmetic (int i) (int j)) }
 {
-    match arithmetic {
-        Arithmetic::Sum => sum_bounds(x, y),
-        Arithmetic::Difference
-        | Arithmetic::Product
-        | Arithmetic::Quotient
-        | Arithmetic::Remainder => Bounds {
-            null: x.null || y.null,
-            value: x.value && y.value,
-            least: None,
-            greatest: None,
-        },
-    }
-}
-
-// Bounds of the sum of two numbers, of which each is one of a number type or a decimal.
-fn sum_bounds<'a>(x: &Bounds, y: &Bounds) -> Bounds<'a>
-    ensures { bounds_view result ≡ sum_bounds (bounds_view x.now) (bounds_view y.now) }
-{
+    let (a, b) = (x.span(), y.span());
     Bounds {
         null: x.null || y.null,
         value: x.value && y.value,
-        least: least_sum(x.least, y.least),
-        greatest: greatest_sum(x.greatest, y.greatest),
+        least: whole_endpoint(span_end(arithmetic, Side::Least, a, b)),
+        greatest: whole_endpoint(span_end(arithmetic, Side::Greatest, a, b)),
     }
 }
 
-// What no sum is below, if both ends are known numbers.
-fn least_sum<'a>(x: Option<Endpoint>, y: Option<Endpoint>) -> Option<Endpoint<'a>>
-    ensures { option_map endpoint_value result ≡ of_both (of_sum nearest_below) (option_map endpoint_value x.entry) (option_map endpoint_value y.entry) }
+// The number as an end, if there is one.
+fn whole_endpoint<'a>(number: Option<i128>) -> Option<Endpoint<'a>>
+    ensures { option_map endpoint_value result ≡ option_map int number }
 {
-    match (x, y) {
-        (Some(Endpoint::Int(i)), Some(Endpoint::Int(j))) => match nearest_below(i, j) {
-            Some(end) => Some(Endpoint::Int(end)),
-            None => None,
-        },
-        _ => None,
-    }
-}
-
-// What no sum is above, if both ends are known numbers.
-fn greatest_sum<'a>(x: Option<Endpoint>, y: Option<Endpoint>) -> Option<Endpoint<'a>>
-    ensures { option_map endpoint_value result ≡ of_both (of_sum nearest_above) (option_map endpoint_value x.entry) (option_map endpoint_value y.entry) }
-{
-    match (x, y) {
-        (Some(Endpoint::Int(i)), Some(Endpoint::Int(j))) => match nearest_above(i, j) {
-            Some(end) => Some(Endpoint::Int(end)),
-            None => None,
-        },
-        _ => None,
-    }
-}
-
-// The greatest number that is at most the sum, if there is one.
-fn nearest_below(i: i128, j: i128) -> Option<i128>
-    ensures { option_map int result ≡ nearest_below (i +ℤ j) }
-{
-    match i.checked_add(j) {
-        Some(sum) => Some(sum),
-        None if i > 0 => Some(i128::MAX),
+    match number {
+        Some(i) => Some(Endpoint::Int(i)),
         None => None,
     }
 }
 
-// The least number that is at least the sum, if there is one.
-fn nearest_above(i: i128, j: i128) -> Option<i128>
-    ensures { option_map int result ≡ nearest_above (i +ℤ j) }
+// The number that an end is, if it is a whole one.
+fn whole(end: Option<Endpoint>) -> Option<i128>
+    ensures { result ≡ whole (option_map endpoint_value end.entry) }
 {
-    match i.checked_add(j) {
-        Some(sum) => Some(sum),
-        None if i < 0 => Some(i128::MIN),
-        None => None,
+    match end {
+        Some(Endpoint::Int(i)) => Some(i),
+        _ => None,
     }
 }
 

@@ -10,6 +10,7 @@ mod kernels;
 mod laws;
 mod like;
 mod shown;
+mod spans;
 mod truths;
 
 pub use bounds::Bounds;

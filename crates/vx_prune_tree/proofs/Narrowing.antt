@@ -61,7 +61,7 @@ binary-mono and_also x y n v w k =
     truth_bounds-mono (and_truths (truths_in x) (truths_in v)) (and_truths (truths_in y) (truths_in w)) (and-mono (truths_in x) (truths_in y) (truths_in v) (truths_in w) (truths_in-mono x y n.0) (truths_in-mono v w k.0))
 binary-mono or_else x y n v w k =
     truth_bounds-mono (or_truths (truths_in x) (truths_in v)) (or_truths (truths_in y) (truths_in w)) (or-mono (truths_in x) (truths_in y) (truths_in v) (truths_in w) (truths_in-mono x y n.0) (truths_in-mono v w k.0))
-binary-mono (computes a) x y n v w k = arithmetic-mono a x y v w n.0 k.0
+binary-mono (computes a) x y n v w k = arithmetic-mono a x y v w n.1 k.1 n.0 k.0
 
 fn_bounds-mono : (f : Function) {xs ys : List Bounds} → Forall2 Narrows xs ys → IsWithin (fn_bounds f xs) (fn_bounds f ys)
 fn_bounds-mono (case_when pairs has_else) a = case-mono (each-within a)
