@@ -1,7 +1,7 @@
 #!/bin/sh
 # Runs expressions by chance in real engines: `tools/engines.sh [SEED [COUNT]]`, from seed 1 on and 5,000 of
 # them unless told otherwise. Over a table of 50 rows with nulls, SQLite, PostgreSQL and ClickHouse have to give the value of
-# the source for each row where it doesn't fault, to fail at sums that have to fail (docs/embed/ENGINES.md), and to keep
+# the source for each row where it doesn't fault, to fail at arithmetic that has to fail (docs/embed/ENGINES.md), and to keep
 # the rows of which a filter is true. Expressions that have no text in an engine, since it lacks days, decimals and instants or
 # something of them, are counted by reason. An engine that isn't installed is installed from Debian's packages, and where
 # it can't be, or doesn't start, a line says so. PostgreSQL is started on a socket in a temporary folder, ClickHouse at a port
@@ -70,7 +70,7 @@ run_postgres() {
     }
     make_cases postgres
     ask_postgres data -c "SET DateStyle = 'SQL, DMY'" -f "$room/script" >"$room/printed" 2>"$room/errors" || true
-    compare postgres 'ERROR:  [a-z]* out of range$'
+    compare postgres 'ERROR:  \([a-z]* out of range\|division by zero\)$'
 }
 
 run_clickhouse() {

@@ -5,7 +5,7 @@ pub mod Words
 pub mod Zeros
 pub mod Patterns
 pub mod Literals
-pub mod Sums
+pub mod Calculations
 pub mod SqlTexts
 pub mod Reasons
 pub mod Unsupported

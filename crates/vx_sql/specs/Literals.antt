@@ -43,7 +43,7 @@ is_by_itself DuckDb p = is_i32 p
 is_by_itself Spark p = is_i32 p
 is_by_itself ClickHouse p = is_i32 p
 
--- the number as one of the engine's type, which a sum relies on
+-- the number as one of the engine's type, which arithmetic relies on
 abbrev pub natural_sql : Dialect → PType → ℕ → List ℕ
 natural_sql d p n = if is_by_itself d p then decimal n else cast_text (decimal n) (number_word d p)
 

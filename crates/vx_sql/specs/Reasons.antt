@@ -9,7 +9,7 @@ use Rattle.vx_literals.specs.Days.{civil_at}
 use Rattle.vx_literals.specs.Instants.{units_a_day}
 use Rattle.vx_source_types.specs.Names.{same_word}
 use Rattle.vx_value.specs.Types.{Name, number, floating, date, timestamp, LogicalType, ty, atomic, Datum, null, bool, int, float, utf8, bytes, list_of, struct_of}
-use Rattle.vx_floats.specs.declared.arithmetic.Arithmetic.TheVariants.{Sum}
+use Rattle.vx_floats.specs.declared.arithmetic.Arithmetic.{Arithmetic}
 use Rattle.vx_fn.specs.Functions.{Function, case_when, get_item, literal, pack, select, fill_null, zip, Operation, compares, and_also, or_else, computes, binary, logical_not, between, like, is_null, is_not_null, mask, cast, arity_of, is_atomic}
 use Rattle.vx_tree.specs.Nodes.{bound_at, bound_count_of}
 use Rattle.vx_tree.specs.Trees.{BoundTrees}
@@ -17,6 +17,7 @@ use Rattle.vx_sql.specs.declared.dialect.Dialect.{Dialect}
 use Rattle.vx_sql.specs.declared.dialect.Dialect.TheVariants.{Postgres, Sqlite, DuckDb, Spark, ClickHouse}
 use Rattle.vx_sql.specs.declared.unsupported.Reason.{Reason}
 use Rattle.vx_sql.specs.declared.unsupported.Reason.TheVariants.{ChildCount, UnknownType, FloatOrder, FloatBits, UnknownFunction, NestedLiteral, PatternNotLiteral, FillNotLiteral, FarDay, EmptyName, LongName, AmbiguousName, Nul, Backslash, Keyword}
+use Rattle.vx_sql.specs.Calculations.{check_of}
 use Rattle.vx_sql.specs.Children.{passes, has_atomic_first, names_first, literal_in, is_value}
 use Rattle.vx_sql.specs.Dialects.{has_floats, has_type, makes_structs}
 use Rattle.vx_sql.specs.Quotes.{is_escaped}
@@ -96,18 +97,18 @@ fill_reason bs = because (not (has_atomic_first bs && passes (λ b. is_value (li
 abbrev pub pattern_reason : BoundTrees → Option Reason
 pattern_reason bs = because (not (passes (λ b. is_some (literal_in b)) (bound_at bs 1))) PatternNotLiteral
 
--- a sum is of whole numbers: the engines' sums of decimals have more digits than ours, and those of floating-point numbers may fail; other arithmetic isn't written
-abbrev pub is_whole : LogicalType → Bool
-is_whole (ty (atomic (number p)) n) = true
-is_whole _ = false
+-- whether the engine has the arithmetic of such values: of whole numbers where it can be made to fail as ours. The engines' results of decimals have more
+-- digits than ours, and those of floating-point numbers may fail
+abbrev pub has_arithmetic : Dialect → Arithmetic → LogicalType → Bool
+has_arithmetic d a (ty (atomic (number p)) n) = is_some (check_of d a p)
+has_arithmetic d a _ = false
 
 -- a comparison tells -0 from 0, as no engine does
-abbrev pub operation_reason : LogicalType → Operation → BoundTrees → Option Reason
-operation_reason t (compares c) bs = because (mixes_zeros bs) FloatOrder
-operation_reason t and_also bs = None
-operation_reason t or_else bs = None
-operation_reason t (computes Sum) bs = because (not (is_whole t)) UnknownFunction
-operation_reason t (computes a) bs = Some UnknownFunction
+abbrev pub operation_reason : Dialect → LogicalType → Operation → BoundTrees → Option Reason
+operation_reason d t (compares c) bs = because (mixes_zeros bs) FloatOrder
+operation_reason d t and_also bs = None
+operation_reason d t or_else bs = None
+operation_reason d t (computes a) bs = because (not (has_arithmetic d a t)) UnknownFunction
 
 abbrev pub range_reason : BoundTrees → Option Reason
 range_reason bs = because (mixes_zeros_between bs) FloatOrder
@@ -121,7 +122,7 @@ function_reason d t fill_null bs = fill_reason bs
 function_reason d t (like negated ci) bs = pattern_reason bs
 function_reason d t (case_when pairs has_else) bs = None
 function_reason d t zip bs = None
-function_reason d t (binary op) bs = operation_reason t op bs
+function_reason d t (binary op) bs = operation_reason d t op bs
 function_reason d t logical_not bs = None
 function_reason d t (between ls us) bs = range_reason bs
 function_reason d t is_null bs = None

@@ -2,7 +2,7 @@
 use Rattle.std.specs.Prelude.{ℕ, Bool, true, false, ◌&&◌, ◌||◌, ◌==◌, List, [], ◌∷◌, ◌++◌, codes, get_or, if◌then◌else◌, Option, Some, None}
 use Rattle.vx_value.specs.Columns.{Constant}
 use Rattle.vx_value.specs.Types.{Name, number, LogicalType, ty, atomic, Datum, utf8}
-use Rattle.vx_floats.specs.declared.arithmetic.Arithmetic.TheVariants.{Sum}
+use Rattle.vx_floats.specs.declared.arithmetic.Arithmetic.{Arithmetic}
 use Rattle.vx_fn.specs.Functions.{equal, not_equal, greater, greater_or_equal, less, less_or_equal, Comparison, Operation, compares, and_also, or_else, computes, Function, case_when, get_item, literal, pack, select, fill_null, zip, binary, logical_not, between, like, is_null, is_not_null, mask, cast, arity_of}
 use Rattle.vx_fn.specs.Texts.{with_commas, pairs_sql, operator_sql, bound_text}
 use Rattle.vx_tree.specs.Nodes.{bound_at, bound_count_of}
@@ -17,7 +17,7 @@ use Rattle.vx_sql.specs.Dialects.{collation}
 use Rattle.vx_sql.specs.Quotes.{name_sql, text_sql}
 use Rattle.vx_sql.specs.Patterns.{has_globs, pattern_sql}
 use Rattle.vx_sql.specs.Literals.{literal_sql, null_sql}
-use Rattle.vx_sql.specs.Sums.{sum_sql}
+use Rattle.vx_sql.specs.Calculations.{arithmetic_sql}
 
 -- ---- operators
 
@@ -25,10 +25,10 @@ use Rattle.vx_sql.specs.Sums.{sum_sql}
 abbrev pub compared_sql : Dialect → Bool → List ℕ → List ℕ
 compared_sql d is_text a = if is_text then a ++ collation d else a
 
--- the sum of numbers; of other types there is none
-abbrev pub added_sql : Dialect → LogicalType → List ℕ → List ℕ → List ℕ
-added_sql d (ty (atomic (number p)) n) a b = sum_sql d p a b
-added_sql d _ a b = []
+-- arithmetic on whole numbers; on other values there is none
+abbrev pub computed_sql : Dialect → LogicalType → Arithmetic → List ℕ → List ℕ → List ℕ
+computed_sql d (ty (atomic (number p)) n) c a b = arithmetic_sql d c p a b
+computed_sql d _ c a b = []
 
 -- whether the engine's AND and OR take no null for what it is: in ClickHouse, to version 19, an AND of false and null is null, and
 -- an OR takes null for false
@@ -77,13 +77,12 @@ comparison_sql d overlooks greater_or_equal a b = or_equal_sql d overlooks (code
 comparison_sql d overlooks less a b = operator_sql (codes "<") a b
 comparison_sql d overlooks less_or_equal a b = or_equal_sql d overlooks (codes "<=") (codes ">") a b
 
--- an operator between two texts, where the first may be a text, a null may be lost, an end overlooked, and the sum has a type
+-- an operator between two texts, where the first may be a text, a null may be lost, an end overlooked, and the result has a type
 abbrev pub binary_sql : Dialect → LogicalType → Bool → Bool → Bool → Operation → List ℕ → List ℕ → List ℕ
 binary_sql d t is_text loses overlooks (compares c) a b = comparison_sql d overlooks c (compared_sql d is_text a) b
 binary_sql d t is_text loses overlooks and_also a b = logic_sql loses (codes "AND") (codes "least") a b
 binary_sql d t is_text loses overlooks or_else a b = logic_sql loses (codes "OR") (codes "greatest") a b
-binary_sql d t is_text loses overlooks (computes Sum) a b = added_sql d t a b
-binary_sql d t is_text loses overlooks (computes c) a b = []
+binary_sql d t is_text loses overlooks (computes c) a b = computed_sql d t c a b
 
 -- one text below another, or not above it
 abbrev pub below_sql : Dialect → Bool → Bool → List ℕ → List ℕ → List ℕ

@@ -1,6 +1,7 @@
 // SQL texts of bound trees, by the engine that they are handed to.
 #![tactic(auto)]
 
+mod calculations;
 mod children;
 mod conversion;
 mod dialect;
@@ -10,7 +11,6 @@ mod names;
 mod patterns;
 mod quotes;
 mod reasons;
-mod sums;
 mod text;
 mod types;
 mod unsupported;

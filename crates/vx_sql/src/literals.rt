@@ -7,7 +7,7 @@ ghost use Rattle.vx_value.specs.Types.{LogicalType};
 ghost use Rattle.vx_value.specs.ValueTexts.{hex_byte};
 ghost use Rattle.vx_value.specs.Views.{type_of, value_of};
 ghost use Rattle.vx_sql.specs.Dialects.{cast_text, decimal_type, type_word};
-ghost use Rattle.vx_sql.specs.Literals.{literal_sql, null_sql, truth_sql, is_by_itself, natural_sql, number_sql, float_sql, decimal_sql, day_sql, instant_sql, octets_sql, byte_escape};
+ghost use Rattle.vx_sql.specs.Literals.{literal_sql, null_sql, truth_sql, is_by_itself, number_sql, float_sql, decimal_sql, day_sql, instant_sql, octets_sql, byte_escape};
 
 use crate::Dialect;
 use crate::quotes::write_text;
@@ -104,9 +104,9 @@ fn is_by_itself(dialect: Dialect, p: PType) -> bool
     }
 }
 
-// Writes the number as one of the engine's type, which a sum relies on. The sign of one below zero
-// would be read with what stands before it.
-fn write_number<W: Write>(
+/// Writes the number as one of the engine's type, which arithmetic relies on. The sign of one below zero
+/// would be read with what stands before it.
+pub(crate) fn write_number<W: Write>(
     dialect: Dialect,
     p: PType,
     number: i128,
@@ -122,18 +122,6 @@ fn write_number<W: Write>(
     f.write_str(" AS ")?;
     f.write_str(number_word(dialect, p))?;
     f.write_str(")")
-}
-
-/// Writes the number as one of the engine's type.
-pub(crate) fn write_natural<W: Write>(
-    dialect: Dialect,
-    p: PType,
-    number: u64,
-    f: &mut Formatter<W>,
-) -> fmt::Result
-    ensures { WritesOnOk W.write_str_gives f.old result (natural_sql dialect p number) f.new }
-{
-    write_number(dialect, p, i128::from(number), f)
 }
 
 // Writes a floating-point number as one of the engine's type of that format, by its text.

@@ -1,5 +1,5 @@
 // Why a node has no SQL text.
-ghost use Rattle.std.specs.Prelude.{◌≡◌};
+ghost use Rattle.std.specs.Prelude.{◌≡◌, not};
 ghost use Rattle.std.specs.Option.{is_some};
 ghost use Rattle.vx_value.specs.Views.{type_of};
 ghost use Rattle.vx_fn.specs.Views.{function_of, operation_of};
@@ -7,9 +7,11 @@ ghost use Rattle.vx_tree.specs.Nodes.{bound_at};
 ghost use Rattle.vx_tree.specs.Views.{bounds_of};
 ghost use Rattle.vx_sql.specs.Children.{passes, names_in, names_first, literal_in, is_value};
 ghost use Rattle.vx_sql.specs.Quotes.{is_escaped};
-ghost use Rattle.vx_sql.specs.Reasons.{has_nul, is_cut, same_name, spelling_reason, name_reason, names_reason, literal_reason, pack_reason, fill_reason, pattern_reason, number_reason, range_reason, is_whole, operation_reason, function_reason, type_reason, own_reason};
+ghost use Rattle.vx_sql.specs.declared.unsupported.Reason.TheVariants.{UnknownFunction};
+ghost use Rattle.vx_sql.specs.Reasons.{has_nul, is_cut, same_name, spelling_reason, name_reason, names_reason, literal_reason, pack_reason, fill_reason, pattern_reason, number_reason, range_reason, because, has_arithmetic, operation_reason, function_reason, type_reason, own_reason};
 
 use crate::Dialect;
+use crate::calculations::Check;
 use crate::children::{child_at, has_atomic_first, is_atomic, literal_in};
 use crate::types::{has_floats, has_type, makes_structs};
 use crate::unsupported::Reason;
@@ -19,7 +21,7 @@ use vx_floats::has_value_text;
 use vx_fn::{Operator, ScalarFnRef};
 use vx_literals::{has_day_text, has_instant_text};
 use vx_tree::BoundExpression;
-use vx_types::{DType, FieldName, Scalar, Value};
+use vx_types::{Arithmetic, DType, FieldName, Scalar, Value};
 
 /// Why a node of that type over these children has no text: for their number, for its type, or for its
 /// function.
@@ -66,7 +68,7 @@ fn function_reason(
         ScalarFnRef::Select(_) => Some(Reason::UnknownFunction),
         ScalarFnRef::FillNull(_) => fill_reason(children),
         ScalarFnRef::Like(_) => pattern_reason(children),
-        ScalarFnRef::Binary(operator) => operation_reason(dtype, *operator, children),
+        ScalarFnRef::Binary(operator) => operation_reason(dialect, dtype, *operator, children),
         ScalarFnRef::Between(_) => range_reason(children),
         ScalarFnRef::CaseWhen(_)
         | ScalarFnRef::Zip(_)
@@ -207,24 +209,45 @@ fn number_reason(dtype: &DType, number: i128) -> Option<Reason>
     }
 }
 
-// A sum is of whole numbers: the engines' sums of decimals have more digits than ours, and those of
-// floating-point numbers may fail. Other arithmetic isn't written. A comparison tells -0 from 0, as
-// no engine does.
+// A comparison tells -0 from 0, as no engine does.
 fn operation_reason(
+    dialect: Dialect,
     dtype: &DType,
     operator: Operator,
     operands: &[BoundExpression],
 ) -> Option<Reason>
-    ensures { result ≡ operation_reason (type_of dtype.now) (operation_of operator) (bounds_of operands.now) }
+    ensures { result ≡ operation_reason dialect (type_of dtype.now) (operation_of operator) (bounds_of operands.now) }
 {
     match operator {
         Operator::And | Operator::Or => None,
-        Operator::Add if is_whole(dtype) => None,
-        Operator::Add | Operator::Sub | Operator::Mul | Operator::Div | Operator::Rem => {
-            Some(Reason::UnknownFunction)
-        }
+        Operator::Add => arithmetic_reason(dialect, Arithmetic::Sum, dtype),
+        Operator::Sub => arithmetic_reason(dialect, Arithmetic::Difference, dtype),
+        Operator::Mul => arithmetic_reason(dialect, Arithmetic::Product, dtype),
+        Operator::Div => arithmetic_reason(dialect, Arithmetic::Quotient, dtype),
+        Operator::Rem => arithmetic_reason(dialect, Arithmetic::Remainder, dtype),
         _ if mixes_zeros(operands) => Some(Reason::FloatOrder),
         _ => None,
+    }
+}
+
+fn arithmetic_reason(dialect: Dialect, arithmetic: Arithmetic, dtype: &DType) -> Option<Reason>
+    ensures { result ≡ because (not (has_arithmetic dialect arithmetic (type_of dtype.now))) UnknownFunction }
+{
+    if has_arithmetic(dialect, arithmetic, dtype) {
+        None
+    } else {
+        Some(Reason::UnknownFunction)
+    }
+}
+
+// Whether the engine has the arithmetic of such values: of whole numbers where it can be made to fail as ours. The
+// engines' results of decimals have more digits than ours, and those of floating-point numbers may fail.
+fn has_arithmetic(dialect: Dialect, arithmetic: Arithmetic, dtype: &DType) -> bool
+    ensures { result ≡ has_arithmetic dialect arithmetic (type_of dtype.now) }
+{
+    match dtype {
+        DType::Primitive(p, _) => Check::of(dialect, arithmetic, *p).is_some(),
+        _ => false,
     }
 }
 
@@ -237,12 +260,6 @@ fn range_reason(children: &[BoundExpression]) -> Option<Reason>
     } else {
         None
     }
-}
-
-fn is_whole(dtype: &DType) -> bool
-    ensures { result ≡ is_whole (type_of dtype.now) }
-{
-    matches!(dtype, DType::Primitive(..))
 }
 
 // A struct that is made has a field, and no two of one name.

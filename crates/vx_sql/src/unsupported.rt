@@ -25,7 +25,7 @@ pub enum Reason {
     /// are behind the point, is read as it.
     #[error("a floating-point number takes more digits than are written")]
     FloatBits,
-    /// The engine has no such function.
+    /// The engine has no such function, or no arithmetic that fails where ours does.
     #[error("the engine has no such function")]
     UnknownFunction,
     /// It is a literal of a list or a struct.

@@ -8,7 +8,7 @@ use crate::kinds::{Kind, Measure};
 use vx_types::PType;
 
 /// Nodes that give truth values.
-const TRUTHS: [&str; 41] = [
+const TRUTHS: [&str; 42] = [
     "(T and T)",
     "(T or T)",
     "(not T)",
@@ -50,13 +50,21 @@ const TRUTHS: [&str; 41] = [
     "cast(T as bool?)",
     "cast(T as bool)",
     "(N + #N = N)",
+    "(N % #N = N)",
 ];
 
-const NUMBERS: [&str; 7] = [
+const NUMBERS: [&str; 14] = [
     "(N + N)",
     "(N + #N)",
     "(#N + N)",
     "(N + !N)",
+    "(N - N)",
+    "(N - #N)",
+    "(N * N)",
+    "(N * #N)",
+    "(N / N)",
+    "(N / #N)",
+    "(N % !N)",
     "fill_null(N, !N)",
     "cast(N as #n?)",
     "cast(N as #n)",
@@ -68,8 +76,8 @@ const OCTETS: [&str; 2] = ["fill_null(B, !B)", "cast(B as binary?)"];
 
 const MEASURES: [&str; 2] = ["fill_null(E, !E)", "cast(E as #e?)"];
 
-/// Few sums, which have no text.
-const SUMMED: [&str; 7] = [
+/// Little arithmetic, which has no text.
+const SUMMED: [&str; 8] = [
     "fill_null(E, !E)",
     "fill_null(E, !E)",
     "fill_null(E, !E)",
@@ -77,6 +85,7 @@ const SUMMED: [&str; 7] = [
     "cast(E as #e?)",
     "cast(E as #e?)",
     "(E + #E)",
+    "(E - #E)",
 ];
 
 /// Nodes over measures that give truth values.

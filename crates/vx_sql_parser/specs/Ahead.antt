@@ -3,7 +3,7 @@ use Rattle.std.specs.Prelude.{ℕ, Bool, true, false, List, Option, Some, None, 
 use Rattle.vx_source_types.specs.Names.{same_word}
 use Rattle.vx_source_types.specs.Tokens.{Lexeme, word, quoted, text, sign}
 use Rattle.vx_source_types.specs.declared.token.Sign.{Sign}
-use Rattle.vx_source_types.specs.declared.token.Sign.TheVariants.{OpenParen, CloseParen, Comma, Dot}
+use Rattle.vx_source_types.specs.declared.token.Sign.TheVariants.{OpenParen, CloseParen, Comma, Dot, Slash}
 use Rattle.vx_sql_parser.specs.SqlTokens.{SqlLexeme}
 use Rattle.vx_sql_parser.specs.Words.{is_name}
 
@@ -44,6 +44,10 @@ closes _ = false
 abbrev pub is_comma : Option Sign → Bool
 is_comma (Some Comma) = true
 is_comma _ = false
+
+abbrev pub is_slash : Option Sign → Bool
+is_slash (Some Slash) = true
+is_slash _ = false
 
 abbrev pub is_dot : Option Sign → Bool
 is_dot (Some Dot) = true

@@ -4,18 +4,19 @@ use Rattle.vx_source_types.specs.Names.{same_word}
 use Rattle.vx_dtype.specs.Quotes.{between_quotes}
 use Rattle.vx_source_types.specs.Tokens.{Lexeme, word, quoted, number, point, text, sign}
 use Rattle.vx_source_types.specs.declared.token.Sign.{Sign}
-use Rattle.vx_source_types.specs.declared.token.Sign.TheVariants.{OpenParen, CloseParen, Comma, Dot, Equal, DoubleEqual, NotEqual, Less, LessEqual, Greater, GreaterEqual, Plus}
+use Rattle.vx_source_types.specs.declared.token.Sign.TheVariants.{OpenParen, CloseParen, Comma, Dot, Equal, DoubleEqual, NotEqual, Less, LessEqual, Greater, GreaterEqual, Plus, Minus, Star, Slash, Percent}
 use Rattle.vx_sql.specs.declared.dialect.Dialect.{Dialect}
+use Rattle.vx_sql.specs.declared.dialect.Dialect.TheVariants.{Postgres, Sqlite, DuckDb, Spark, ClickHouse}
 use Rattle.vx_sql_parser.specs.declared.reason.Unread.{Unread}
-use Rattle.vx_sql_parser.specs.declared.reason.Unread.TheVariants.{Sign as NoSign, Chain, Function, Word, Fill as NoFill, Operand, Collation}
+use Rattle.vx_sql_parser.specs.declared.reason.Unread.TheVariants.{Sign as NoSign, Quotient, Chain, Function, Word, Fill as NoFill, Operand, Collation}
 use Rattle.vx_sql_parser.specs.declared.step.Bracket.{Bracket}
-use Rattle.vx_sql_parser.specs.declared.step.Bracket.TheVariants.{Paren, Fill, Lower, Translate, Case, CaseOf}
+use Rattle.vx_sql_parser.specs.declared.step.Bracket.TheVariants.{Paren, Fill, Lower, Translate, Divided, Case, CaseOf}
 use Rattle.vx_sql_parser.specs.declared.step.Change.TheVariants.{Stays, Chains, Divides, Opens, Closes}
 use Rattle.vx_sql_parser.specs.SqlTokens.{SqlLexeme, sql_tokens}
 use Rattle.vx_sql_parser.specs.Words.{is_divider, is_plain_word, is_reserved}
 use Rattle.vx_sql_parser.specs.Patterns.{ignores_case}
 use Rattle.vx_sql_parser.specs.Steps.{State, changed, innermost, Answer, says}
-use Rattle.vx_sql_parser.specs.Ahead.{lexeme_at, name_in, opens, closes, is_text, sign_at, is_word_at}
+use Rattle.vx_sql_parser.specs.Ahead.{lexeme_at, name_in, opens, closes, is_slash, is_text, sign_at, is_word_at}
 use Rattle.vx_sql_parser.specs.CastTypes.{type_at}
 use Rattle.vx_sql_parser.specs.Values.{name_rule, number_rule, point_rule, is_bytes_order, as_said, valued_rule, is_fill}
 use Rattle.vx_sql_parser.specs.Matches.{like_rule, ilike_rule, glob_rule, folded_like, translated}
@@ -45,6 +46,7 @@ then_said _ = codes "then"
 abbrev pub comma_rule : Dialect → Option Bracket → List SqlLexeme → Answer
 comma_rule d (Some Fill) xs = if is_fill d xs then says (codes ",") Divides 0 else Err NoFill
 comma_rule d (Some Translate) xs = translated d xs
+comma_rule d (Some Divided) xs = says (codes ") / (") Divides 0
 comma_rule d _ xs = says (codes ",") Divides 0
 
 -- a collation, which isn't written where it is the one of bytes. In `lower(.. COLLATE "C")` the bracket closes behind it
@@ -63,10 +65,18 @@ is_rule xs =
     if is_distinct xs 0 then says (codes "is not null") Stays 3 else (
     if is_word_at xs 0 (codes "not") && is_distinct xs 1 then says (codes "is null") Stays 4 else says (codes "is") Stays 0)
 
+-- a word of queries or operators: `div` divides whole numbers, in PostgreSQL as a function, and in Spark as an operator
+abbrev pub reserved_rule : Dialect → List ℕ → List SqlLexeme → Answer
+reserved_rule Postgres w xs = if same_word w (codes "div") && opens (sign_at xs 0) then says (codes "((") (Opens Divided) 1 else Err Word
+reserved_rule Sqlite w xs = Err Word
+reserved_rule DuckDb w xs = Err Word
+reserved_rule Spark w xs = if same_word w (codes "div") then says (codes "/") Stays 0 else Err Word
+reserved_rule ClickHouse w xs = Err Word
+
 -- a word that is a name, a function, or no word that is read
 abbrev pub other_rule : Dialect → Option Bracket → List ℕ → List SqlLexeme → Answer
 other_rule d top w xs =
-    if is_reserved w then Err Word else (
+    if is_reserved w then reserved_rule d w xs else (
     if opens (sign_at xs 0) || is_text (lexeme_at xs 0) then valued_rule d w xs else (
     if same_word w (codes "collate") then collate_rule d top xs else name_rule w xs))
 
@@ -98,11 +108,20 @@ word_rule d top w xs = if is_divider w then says w Divides 0 else (if is_plain_w
 abbrev pub chain_rule : Bool → List ℕ → Answer
 chain_rule chained s = if chained then Err Chain else says s Chains 0
 
--- a closing bracket, but behind a text whose case is ignored and that isn't matched
+-- a closing bracket, but behind a text whose case is ignored and that isn't matched; that of a quotient closes two
 abbrev pub close_rule : Option Bracket → Answer
 close_rule (Some Lower) = Err Function
 close_rule (Some Translate) = Err Function
+close_rule (Some Divided) = says (codes "))") Closes 0
 close_rule top = says (codes ")") Closes 0
+
+-- a `/`: the quotient of whole numbers is one in PostgreSQL and SQLite, and that by `//` in DuckDB; the others have a fraction
+abbrev pub slash_rule : Dialect → List SqlLexeme → Answer
+slash_rule Postgres xs = says (codes "/") Stays 0
+slash_rule Sqlite xs = says (codes "/") Stays 0
+slash_rule DuckDb xs = if is_slash (sign_at xs 0) then says (codes "/") Stays 1 else Err Quotient
+slash_rule Spark xs = Err Quotient
+slash_rule ClickHouse xs = Err Quotient
 
 abbrev pub sign_rule : Option Bracket → Bool → Sign → Answer
 sign_rule top chained OpenParen = says (codes "(") (Opens Paren) 0
@@ -116,6 +135,9 @@ sign_rule top chained LessEqual = chain_rule chained (codes "<=")
 sign_rule top chained Greater = says (codes ">") Stays 0
 sign_rule top chained GreaterEqual = says (codes ">=") Stays 0
 sign_rule top chained Plus = says (codes "+") Stays 0
+sign_rule top chained Minus = says (codes "-") Stays 0
+sign_rule top chained Star = says (codes "*") Stays 0
+sign_rule top chained Percent = says (codes "%") Stays 0
 sign_rule top chained other = Err NoSign
 
 -- ---- tokens
@@ -128,6 +150,7 @@ token_rule d top chained (text t) xs = says (between_quotes 34 t) Stays 0
 token_rule d top chained (number negative (Some n) s) xs = number_rule negative n xs
 token_rule d top chained (point s) xs = point_rule d s xs
 token_rule d top chained (sign Comma) xs = comma_rule d top xs
+token_rule d top chained (sign Slash) xs = slash_rule d xs
 token_rule d top chained (sign o) xs = sign_rule top chained o
 token_rule d top chained x xs = Err NoSign
 

@@ -10,7 +10,7 @@ use Rattle.vx_sql.specs.declared.dialect.Dialect.{Dialect}
 use Rattle.vx_sql.specs.declared.dialect.Dialect.TheVariants.{Postgres, Sqlite, DuckDb, Spark, ClickHouse}
 use Rattle.vx_sql.specs.Dialects.{has_days, has_decimals, has_floats}
 use Rattle.vx_sql_parser.specs.declared.reason.Unread.TheVariants.{Number as NoNumber, Hexadecimal, Function, TypedText, Table, CastType as NoType}
-use Rattle.vx_sql_parser.specs.declared.step.Bracket.TheVariants.{Paren, Fill, Lower, Translate}
+use Rattle.vx_sql_parser.specs.declared.step.Bracket.TheVariants.{Paren, Fill, Lower, Translate, Divided}
 use Rattle.vx_sql_parser.specs.declared.step.Change.TheVariants.{Stays, Opens}
 use Rattle.vx_sql_parser.specs.SqlTokens.{SqlLexeme}
 use Rattle.vx_sql_parser.specs.Words.{is_one_of, is_truth}
@@ -216,20 +216,20 @@ abbrev pub unhex_rule : Dialect → List SqlLexeme → Answer
 unhex_rule ClickHouse xs = if closes (sign_at xs 2) then octets_said 3 (text_at xs 1) else Err Function
 unhex_rule d xs = Err Function
 
--- the functions that ignore the case of ASCII letters, before a match
-abbrev pub fold_call : Dialect → List ℕ → Answer
-fold_call Postgres w = if same_word w (codes "lower") then says (codes "(") (Opens Lower) 1 else Err Function
-fold_call Sqlite w = Err Function
-fold_call DuckDb w = if same_word w (codes "translate") then says (codes "(") (Opens Translate) 1 else Err Function
-fold_call Spark w = if same_word w (codes "translate") then says (codes "(") (Opens Translate) 1 else Err Function
-fold_call ClickHouse w = Err Function
+-- the functions that ignore the case of ASCII letters, before a match, and ClickHouse's that divides whole numbers
+abbrev pub other_call : Dialect → List ℕ → Answer
+other_call Postgres w = if same_word w (codes "lower") then says (codes "(") (Opens Lower) 1 else Err Function
+other_call Sqlite w = Err Function
+other_call DuckDb w = if same_word w (codes "translate") then says (codes "(") (Opens Translate) 1 else Err Function
+other_call Spark w = if same_word w (codes "translate") then says (codes "(") (Opens Translate) 1 else Err Function
+other_call ClickHouse w = if same_word w (codes "intdiv") then says (codes "((") (Opens Divided) 1 else Err Function
 
 abbrev pub call_rule : Dialect → List ℕ → List SqlLexeme → Answer
 call_rule d w xs =
     if same_word w (codes "cast") then cast_said (literal_cast d xs 0) else (
     if same_word w (codes "coalesce") then says (codes "coalesce(") (Opens Fill) 1 else (
     if same_word w (codes "decode") then decode_rule d xs else (
-    if same_word w (codes "unhex") then unhex_rule d xs else fold_call d w)))
+    if same_word w (codes "unhex") then unhex_rule d xs else other_call d w)))
 
 -- a call, or a word before a text
 abbrev pub valued_rule : Dialect → List ℕ → List SqlLexeme → Answer

@@ -113,6 +113,12 @@ pub(crate) fn is_comma_at(tokens: &[Lexed], i: usize) -> bool
     matches!(sign_at(tokens, i), Some(Sign::Comma))
 }
 
+pub(crate) fn is_slash_at(tokens: &[Lexed], i: usize) -> bool
+    ensures { result ≡ ahead.is_slash (ahead.sign_at (lexemes_of tokens.now) i) }
+{
+    matches!(sign_at(tokens, i), Some(Sign::Slash))
+}
+
 pub(crate) fn is_dot_at(tokens: &[Lexed], i: usize) -> bool
     ensures { result ≡ ahead.is_dot (ahead.sign_at (lexemes_of tokens.now) i) }
 {

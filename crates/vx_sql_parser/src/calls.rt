@@ -47,13 +47,13 @@ fn call(alloc: Global, dialect: Dialect, word: &str, tokens: &[Lexed]) -> Result
     } else if is(word, "unhex") {
         unhex(alloc, dialect, tokens)
     } else {
-        fold_call(alloc, dialect, word)
+        other_call(alloc, dialect, word)
     }
 }
 
-// The functions that ignore the case of ASCII letters, before a match.
-fn fold_call(alloc: Global, dialect: Dialect, word: &str) -> Result<Step, Stop>
-    ensures { Answers result (values.fold_call dialect word.now) }
+// The functions that ignore the case of ASCII letters, before a match, and ClickHouse's that divides whole numbers.
+fn other_call(alloc: Global, dialect: Dialect, word: &str) -> Result<Step, Stop>
+    ensures { Answers result (values.other_call dialect word.now) }
 {
     match dialect {
         Dialect::Postgres if is(word, "lower") => {
@@ -61,6 +61,9 @@ fn fold_call(alloc: Global, dialect: Dialect, word: &str) -> Result<Step, Stop>
         }
         Dialect::DuckDb | Dialect::Spark if is(word, "translate") => {
             says(alloc, "(", Change::Opens(Bracket::Translate), 1)
+        }
+        Dialect::ClickHouse if is(word, "intdiv") => {
+            says(alloc, "((", Change::Opens(Bracket::Divided), 1)
         }
         _ => Err(Stop::Unread(Unread::Function)),
     }
@@ -106,6 +109,7 @@ pub(crate) fn comma(
 {
     match top {
         Some(Bracket::Translate) => translated(alloc, dialect, tokens),
+        Some(Bracket::Divided) => says(alloc, ") / (", Change::Divides, 0),
         Some(Bracket::Fill) if !is_fill(alloc, dialect, tokens)? => {
             Err(Stop::Unread(Unread::Fill))
         }

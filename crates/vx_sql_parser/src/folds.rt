@@ -25,6 +25,7 @@ pub(crate) fn closing(alloc: Global, top: Option<&Bracket>) -> Result<Step, Stop
 {
     match top {
         Some(Bracket::Lower | Bracket::Translate) => Err(Stop::Unread(Unread::Function)),
+        Some(Bracket::Divided) => says(alloc, "))", Change::Closes, 0),
         _ => says(alloc, ")", Change::Closes, 0),
     }
 }

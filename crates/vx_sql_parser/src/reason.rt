@@ -5,8 +5,11 @@ use thiserror::Error;
 #[derive(Clone, Copy, Debug, PartialEq, Eq, Error)]
 pub enum Unread {
     /// A character that begins no token, or a sign of an operator that there isn't.
-    #[error("`+`, comparisons, `and`, `or` and `not` are read, and names of other letters between the engine's quotes")]
+    #[error("arithmetic, comparisons, `and`, `or` and `not` are read, and names of other letters between the engine's quotes")]
     Sign,
+    /// A `/` where the quotient of whole numbers has a fraction.
+    #[error("`/` of whole numbers has a fraction here; `//` in DuckDB, `div` in Spark and `intDiv` in ClickHouse have none")]
+    Quotient,
     /// A quote that isn't closed, or a backslash that says something of another character.
     #[error("the closing quote is missing, or a backslash stands before another character than a quote or a backslash")]
     Unclosed,

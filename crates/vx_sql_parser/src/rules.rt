@@ -6,7 +6,7 @@ ghost use Rattle.vx_sql_parser.specs.Rules as rules;
 ghost use Rattle.vx_sql_parser.specs.RuleViews.{Answers};
 ghost use Rattle.vx_sql_parser.specs.Views.{lexeme_in, lexemes_of};
 
-use crate::ahead::{is_text_at, is_word_at, opens_at};
+use crate::ahead::{is_slash_at, is_text_at, is_word_at, opens_at};
 use crate::calls::{comma, valued};
 use crate::cases::{case_begins, then_said, when_said};
 use crate::casts::as_type;
@@ -52,6 +52,7 @@ impl Translation {
             } => number_rule(alloc, *negative, *n, behind),
             Token::Point(digits) => point_rule(alloc, self.dialect, digits.as_str(), behind),
             Token::Sign(Sign::Comma) => comma(alloc, self.dialect, self.state.innermost(), behind),
+            Token::Sign(Sign::Slash) => slash_rule(alloc, self.dialect, behind),
             Token::Sign(sign) => self.sign_rule(alloc, *sign),
             _ => Err(Stop::Unread(Unread::Sign)),
         }
@@ -111,7 +112,7 @@ impl Translation {
         ensures { Answers result (rules.other_rule self.now.dialect (steps.innermost self.now.state.brackets.items) word.now (lexemes_of behind.now)) }
     {
         if is_reserved(word) {
-            Err(Stop::Unread(Unread::Word))
+            reserved_rule(alloc, self.dialect, word, behind)
         } else if opens_at(behind, 0) || is_text_at(behind, 0) {
             valued(alloc, self.dialect, word, behind)
         } else if is(word, "collate") {
@@ -121,7 +122,7 @@ impl Translation {
         }
     }
 
-    // A sign, no comma.
+    // A sign, no comma and no `/`.
     fn sign_rule(&self, alloc: Global, sign: Sign) -> Result<Step, Stop>
         ensures { Answers result (rules.sign_rule (steps.innermost self.now.state.brackets.items) self.now.state.chained sign) }
     {
@@ -136,7 +137,42 @@ impl Translation {
             Sign::Greater => says(alloc, ">", Change::Stays, 0),
             Sign::GreaterEqual => says(alloc, ">=", Change::Stays, 0),
             Sign::Plus => says(alloc, "+", Change::Stays, 0),
+            Sign::Minus => says(alloc, "-", Change::Stays, 0),
+            Sign::Star => says(alloc, "*", Change::Stays, 0),
+            Sign::Percent => says(alloc, "%", Change::Stays, 0),
             _ => Err(Stop::Unread(Unread::Sign)),
+        }
+    }
+}
+
+// A word of queries or operators: `div` divides whole numbers, in PostgreSQL as a function, and in Spark as an operator.
+fn reserved_rule(
+    alloc: Global,
+    dialect: Dialect,
+    word: &str,
+    behind: &[Lexed],
+) -> Result<Step, Stop>
+    ensures { Answers result (rules.reserved_rule dialect word.now (lexemes_of behind.now)) }
+{
+    match dialect {
+        Dialect::Postgres if is(word, "div") && opens_at(behind, 0) => {
+            says(alloc, "((", Change::Opens(Bracket::Divided), 1)
+        }
+        Dialect::Spark if is(word, "div") => says(alloc, "/", Change::Stays, 0),
+        _ => Err(Stop::Unread(Unread::Word)),
+    }
+}
+
+// A `/`: the quotient of whole numbers is one in PostgreSQL and SQLite, and that by `//` in DuckDB; the others have a
+// fraction.
+fn slash_rule(alloc: Global, dialect: Dialect, behind: &[Lexed]) -> Result<Step, Stop>
+    ensures { Answers result (rules.slash_rule dialect (lexemes_of behind.now)) }
+{
+    match dialect {
+        Dialect::Postgres | Dialect::Sqlite => says(alloc, "/", Change::Stays, 0),
+        Dialect::DuckDb if is_slash_at(behind, 0) => says(alloc, "/", Change::Stays, 1),
+        Dialect::DuckDb | Dialect::Spark | Dialect::ClickHouse => {
+            Err(Stop::Unread(Unread::Quotient))
         }
     }
 }

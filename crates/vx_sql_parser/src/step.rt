@@ -19,6 +19,8 @@ pub(crate) enum Bracket {
     Lower,
     /// The same of a `translate`.
     Translate,
+    /// The bracket of a function that divides whole numbers.
+    Divided,
     /// A CASE.
     Case,
     /// A CASE over the column of that name.

@@ -35,11 +35,11 @@ pub fn sql_source(alloc: Global, text: &str, dialect: Dialect) -> Result<SqlSour
 /// The expression that the condition of a WHERE means, in the engine's own words: the one that its source text says
 /// ([`sql_source`]).
 ///
-/// Read are names, texts, whole numbers, bytes, days, instants, comparisons, `+`, `and`, `or`, `not`, `is [not]` before `null`,
-/// `true` and `false`, `[not] in`, `[not] between`, `[not] like` with an escape or without, `ilike`, CASE over conditions or over a
-/// column, casts, and `coalesce` of a value and a literal. Words are made small in PostgreSQL, and stay as they are elsewhere.
-/// Texts are compared by bytes. `like` ignores the case of ASCII letters in SQLite; elsewhere `ilike` does, before a pattern
-/// of ASCII alone. A literal within a cast is of the cast's type.
+/// Read are names, texts, whole numbers, bytes, days, instants, comparisons, `+`, `-`, `*`, `%`, the quotient of whole numbers,
+/// `and`, `or`, `not`, `is [not]` before `null`, `true` and `false`, `[not] in`, `[not] between`, `[not] like` with an escape or
+/// without, `ilike`, CASE over conditions or over a column, casts, and `coalesce` of a value and a literal. Words are made small
+/// in PostgreSQL, and stay as they are elsewhere. Texts are compared by bytes. `like` ignores the case of ASCII letters in
+/// SQLite; elsewhere `ilike` does, before a pattern of ASCII alone. A literal within a cast is of the cast's type.
 ///
 /// Refuses as [`sql_source`], and with `SqlError::Source` where something else should stand. Time is that of both.
 pub fn parse_sql(alloc: Global, text: &str, dialect: Dialect) -> Result<Expression, SqlError>

@@ -86,7 +86,7 @@ impl Found {
     {
         match apply_bound(alloc, batch, tree) {
             Ok(column) => self.add_values(row, &column),
-            Err(VortexError::AddOverflow { .. }) => {
+            Err(VortexError::AddOverflow { .. } | VortexError::DivisionByZero { .. }) => {
                 if self.shown.len() < FAILURES
                     && let Some(place) = first_fault_at(alloc, tree, batch)?
                     && is_shown(tree, place.path.as_slice())

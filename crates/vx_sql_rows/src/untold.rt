@@ -5,8 +5,8 @@ use vx_sql_chance::has_measures;
 use vx_tree::BoundExpression;
 use vx_types::DType;
 
-/// Whether there is no text since the engine lacks measures, their sums or the order of floats, since a day is far, or since
-/// a float takes more digits than are written.
+/// Whether there is no text since the engine lacks measures, their arithmetic or the order of floats, since a day is far, or
+/// since a float takes more digits than are written. DuckDB and Spark have no text of some quotients and remainders.
 pub fn is_untold(dialect: Dialect, tree: &BoundExpression, unsupported: &Unsupported) -> bool {
     let Unsupported::Node { path, reason } = unsupported else {
         return false;
@@ -16,7 +16,9 @@ pub fn is_untold(dialect: Dialect, tree: &BoundExpression, unsupported: &Unsuppo
     };
     match reason {
         Reason::UnknownType => is_measure(node) && !has_measures(dialect),
-        Reason::UnknownFunction => is_measure(node) && is_sum(node),
+        Reason::UnknownFunction => {
+            is_arithmetic(node) && (is_measure(node) || lacks_quotients(dialect))
+        }
         Reason::FarDay => is_measure(node),
         Reason::FloatOrder => is_float(node) || node.children().iter().any(|child| is_float(child)),
         _ => is_float(node),
@@ -43,6 +45,18 @@ fn is_float(node: &BoundExpression) -> bool {
     matches!(node.dtype(), DType::Float(..))
 }
 
-fn is_sum(node: &BoundExpression) -> bool {
-    matches!(node.as_scalar(), Some(ScalarFnRef::Binary(Operator::Add)))
+fn is_arithmetic(node: &BoundExpression) -> bool {
+    matches!(
+        node.as_scalar(),
+        Some(ScalarFnRef::Binary(
+            Operator::Add | Operator::Sub | Operator::Mul | Operator::Div | Operator::Rem
+        ))
+    )
+}
+
+fn lacks_quotients(dialect: Dialect) -> bool {
+    match dialect {
+        Dialect::DuckDb | Dialect::Spark => true,
+        Dialect::Postgres | Dialect::Sqlite | Dialect::ClickHouse => false,
+    }
 }

@@ -5,20 +5,20 @@ ghost use Rattle.vx_value.specs.Views.{type_of};
 ghost use Rattle.vx_fn.specs.Texts.{operator_sql};
 ghost use Rattle.vx_fn.specs.Views.{is_strict, operation_of};
 ghost use Rattle.vx_sql.specs.Children.{has_text_first};
-ghost use Rattle.vx_sql.specs.Sums.{sum_sql};
-ghost use Rattle.vx_sql.specs.SqlTexts.{sqls_in, trees_in, compared_sql, loses_nulls, loses_operands, loses_bounds, overlooks_ends, overlooks_operands, least_sql, logic_sql, or_equal_sql, binary_sql, not_sql, between_sql, range_sql, both_sql, below_sql};
+ghost use Rattle.vx_sql.specs.Calculations.{second_sql, arithmetic_sql};
+ghost use Rattle.vx_sql.specs.SqlTexts.{sqls_in, trees_in, compared_sql, loses_nulls, loses_operands, loses_bounds, overlooks_ends, overlooks_operands, least_sql, logic_sql, or_equal_sql, computed_sql, binary_sql, not_sql, between_sql, range_sql, both_sql, below_sql};
 
 use super::{Children, write_child};
 use crate::Dialect;
+use crate::calculations::{Check, forgives_zero};
 use crate::children::{admits_null_at, has_string_first, has_text_first};
-use crate::sums::Check;
 use crate::types::collation;
 use std::fmt;
 use std::fmt::{Formatter, Write};
 use vx_fn::{BetweenOptions, Operator, StrictComparison};
-use vx_types::{DType, PType};
+use vx_types::{Arithmetic, DType, PType};
 
-// An operator between its operands; the sum as one of that type.
+// An operator between its operands; arithmetic as one of that type.
 #[cycle(text)]
 pub(super) fn write_binary<W: Write>(
     dtype: &DType,
@@ -39,11 +39,11 @@ pub(super) fn write_binary<W: Write>(
         Operator::Lte => write_or_equal("<=", ">", operands, f),
         Operator::And => write_logic("AND", "least", operands, f),
         Operator::Or => write_logic("OR", "greatest", operands, f),
-        Operator::Add => match dtype {
-            DType::Primitive(p, _) => write_sum(*p, operands, f),
-            _ => Ok(()),
-        },
-        Operator::Sub | Operator::Mul | Operator::Div | Operator::Rem => Ok(()),
+        Operator::Add => write_computed(dtype, Arithmetic::Sum, operands, f),
+        Operator::Sub => write_computed(dtype, Arithmetic::Difference, operands, f),
+        Operator::Mul => write_computed(dtype, Arithmetic::Product, operands, f),
+        Operator::Div => write_computed(dtype, Arithmetic::Quotient, operands, f),
+        Operator::Rem => write_computed(dtype, Arithmetic::Remainder, operands, f),
     }
 }
 
@@ -217,19 +217,64 @@ fn write_sign<W: Write>(sign: &str, f: &mut Formatter<W>) -> fmt::Result
     f.write_str(" ")
 }
 
-// A sum that fails where it isn't of the number type.
+// Arithmetic on numbers, none on other values.
 #[cycle(text)]
-fn write_sum<W: Write>(p: PType, operands: Children, f: &mut Formatter<W>) -> fmt::Result
+fn write_computed<W: Write>(
+    dtype: &DType,
+    arithmetic: Arithmetic,
+    operands: Children,
+    f: &mut Formatter<W>,
+) -> fmt::Result
     requires { length operands.nodes.now ≡ 2 }
     ensures { let cs = sqls_in operands.entry in WritesOnOk W.write_str_gives f.old result
-        (sum_sql operands.entry.dialect p (get_or cs 0 []) (get_or cs 1 [])) f.new }
+        (computed_sql operands.entry.dialect (type_of dtype.now) arithmetic (get_or cs 0 []) (get_or cs 1 [])) f.new }
 {
-    let check = Check::of(operands.dialect, p);
-    check.write_opening(operands.dialect, p, f)?;
+    match dtype {
+        DType::Primitive(p, _) => write_arithmetic(*p, arithmetic, operands, f),
+        _ => Ok(()),
+    }
+}
+
+// Arithmetic that fails where the result isn't of the number type, if the engine can be made to.
+#[cycle(text)]
+fn write_arithmetic<W: Write>(
+    p: PType,
+    arithmetic: Arithmetic,
+    operands: Children,
+    f: &mut Formatter<W>,
+) -> fmt::Result
+    requires { length operands.nodes.now ≡ 2 }
+    ensures { let cs = sqls_in operands.entry in WritesOnOk W.write_str_gives f.old result
+        (arithmetic_sql operands.entry.dialect arithmetic p (get_or cs 0 []) (get_or cs 1 [])) f.new }
+{
+    let dialect = operands.dialect;
+    let Some(check) = Check::of(dialect, arithmetic, p) else {
+        return Ok(());
+    };
+    check.write_opening(dialect, arithmetic, p, f)?;
     write_child(operands, 0, f)?;
-    f.write_str(check.separator())?;
+    f.write_str(check.separator(arithmetic))?;
+    write_second(arithmetic, operands, f)?;
+    check.write_end(dialect, p, f)
+}
+
+// The second operand. Where the engine's results by 0 are null, it is 1.5 in place of 0, by which they are floats.
+#[cycle(text)]
+fn write_second<W: Write>(
+    arithmetic: Arithmetic,
+    operands: Children,
+    f: &mut Formatter<W>,
+) -> fmt::Result
+    requires { length operands.nodes.now ≡ 2 }
+    ensures { WritesOnOk W.write_str_gives f.old result
+        (second_sql operands.entry.dialect arithmetic (get_or (sqls_in operands.entry) 1 [])) f.new }
+{
+    if !forgives_zero(operands.dialect, arithmetic) {
+        return write_child(operands, 1, f);
+    }
+    f.write_str("CAST(replace(' ' || ")?;
     write_child(operands, 1, f)?;
-    check.write_end(operands.dialect, p, f)
+    f.write_str(" || ' ', ' 0 ', '1.5') AS NUMERIC)")
 }
 
 #[cycle(text)]

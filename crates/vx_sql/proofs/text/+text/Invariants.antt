@@ -59,8 +59,14 @@ decreases-operators::write_operator g l = 16 * sizes_of (unbound_each (bounds_of
 abbrev pub decreases-operators::write_least_below : goal.decreases-operators::write_least_below
 decreases-operators::write_least_below g l = 16 * sizes_of (unbound_each (bounds_of l.children.nodes.now)) + 6
 
-abbrev pub decreases-operators::write_sum : goal.decreases-operators::write_sum
-decreases-operators::write_sum g l = 16 * sizes_of (unbound_each (bounds_of l.operands.nodes.now)) + 4
+abbrev pub decreases-operators::write_computed : goal.decreases-operators::write_computed
+decreases-operators::write_computed g l = 16 * sizes_of (unbound_each (bounds_of l.operands.nodes.now)) + 6
+
+abbrev pub decreases-operators::write_arithmetic : goal.decreases-operators::write_arithmetic
+decreases-operators::write_arithmetic g l = 16 * sizes_of (unbound_each (bounds_of l.operands.nodes.now)) + 5
+
+abbrev pub decreases-operators::write_second : goal.decreases-operators::write_second
+decreases-operators::write_second g l = 16 * sizes_of (unbound_each (bounds_of l.operands.nodes.now)) + 4
 
 abbrev pub decreases-operators::write_not : goal.decreases-operators::write_not
 decreases-operators::write_not g l = 16 * sizes_of (unbound_each (bounds_of l.children.nodes.now)) + 5
