@@ -18,10 +18,11 @@ use vx_types::{VortexError, VortexResult};
 ///
 /// Refuses with `ScopeMismatch` (12) exactly where some scope root has another type than the
 /// batch; that refusal takes no memory. Else exactly where some node faults on the batch, with the
-/// first such fault: the children's from left to right, then the node's, with its lowest row. A sum
-/// out of the range of its type is `AddOverflow` (13), a value that a cast's target doesn't take
-/// `CastNull` (14), and a fill that is null, not one value, or of a type that isn't filled
-/// `BadFill` (15). Refuses with `OutOfMemory` (1) too.
+/// first such fault: the children's from left to right, then the node's, with its lowest row. A
+/// result of arithmetic out of the range of its type is `AddOverflow` (13), a whole number by zero
+/// `DivisionByZero` (20), a value that a cast's target doesn't take `CastNull` (14), and a fill that
+/// is null, not one value, or of a type that isn't filled `BadFill` (15). Refuses with `OutOfMemory`
+/// (1) too.
 pub fn apply_array(alloc: Global, batch: &Array, b: &BoundExpression) -> VortexResult<Array>
     requires { WellTyped (bound_of b.now) }
     ensures mismatch { (Over (bound_of b.now) batch.now.type → ⊥) → IsErrOf result ScopeMismatch }

@@ -27,9 +27,9 @@ use vx_types::{VortexError, VortexResult};
 /// plan's paths, where its batch is of the plan's type.
 ///
 /// Refuses with `ScopeMismatch` (12) exactly where the batch is of another type than the plan's. Else
-/// with a fault (13 to 15) exactly where the plan's tree faults on the batch: that of the first
-/// partition that faults, else the root's over the joined structs, or without a split the tree's. And
-/// with `OutOfMemory` (1).
+/// with a fault (13 to 15 and 20) exactly where the plan's tree faults on the batch: that of the
+/// first partition that faults, else the root's over the joined structs, or without a split the
+/// tree's. And with `OutOfMemory` (1).
 pub fn scan_array<R: ArrayReader>(alloc: Global, reader: &R, plan: &ScanPlan) -> VortexResult<Array>
     requires allowed { (R.batch reader.now).type ≡ type_of plan.now.scope → AreJust (R.allowed reader.now) (minimal_paths plan.now.paths) }
     ensures mismatch { (R.batch reader.now).type ≢ type_of plan.now.scope → IsErrOf result ScopeMismatch }

@@ -22,8 +22,8 @@ use vx_types::{DType, VortexError, VortexResult};
 /// gives them.
 ///
 /// Refuses with `ScopeMismatch` (12) exactly where the batch is of another type than the plan's; else
-/// with `NotBool` (7) exactly where the plan's tree is of another type than bool; else with the tree's first
-/// fault on the batch (13 to 15), exactly where there is one; and with `OutOfMemory` (1).
+/// with `NotBool` (7) exactly where the plan's tree is of another type than bool; else with the tree's
+/// first fault on the batch (13 to 15 and 20), exactly where there is one; and with `OutOfMemory` (1).
 pub fn select_array(alloc: Global, batch: &Array, plan: &ScanPlan) -> VortexResult<Bits>
     ensures mismatch { batch.now.type ≢ type_of plan.now.scope → IsErrOf result ScopeMismatch }
     ensures not_bool { batch.now.type ≡ type_of plan.now.scope → is_truth (node_type (bound_of plan.now.tree)) ≡ false → IsErrOf result NotBool }

@@ -18,8 +18,8 @@ use vx_types::VortexResult;
 /// over the structs that these make, which share their buffers.
 ///
 /// Asks well-typed partitions over the batch's type, a name for each, and a well-typed root over the
-/// struct of their types. Refuses with the fault (13 to 15) of the first partition that faults on the
-/// batch, else of the root over the structs, and with `OutOfMemory` (1).
+/// struct of their types. Refuses with the fault (13 to 15 and 20) of the first partition that faults
+/// on the batch, else of the root over the structs, and with `OutOfMemory` (1).
 pub fn evaluate_split_array(
     alloc: Global,
     batch: &Array,

@@ -25,7 +25,7 @@ pub enum Arithmetic {
 
 impl Float {
     /// The arithmetic of IEEE 754 on both, to nearest and to even at a tie. None where the formats
-    /// differ, and of `Remainder`: C libraries compute it, and older ones lack that call.
+    /// differ, and of `Remainder`: the `fmod` that is linked is newer than some systems' C library.
     pub fn compute(self, arithmetic: Arithmetic, other: Float) -> Option<Float>
         ensures { result ≡ float_result arithmetic self other }
     {

@@ -16,8 +16,8 @@ use vx_types::{Column, Nullability, VortexResult};
 /// the root over the structs that these make.
 ///
 /// Asks well-typed partitions over the batch's type, a name for each, and a well-typed root over the
-/// struct of their types. Refuses with the fault (13 to 15) of the first partition that faults on the
-/// batch, else of the root over the structs, and with `OutOfMemory` (1).
+/// struct of their types. Refuses with the fault (13 to 15 and 20) of the first partition that faults
+/// on the batch, else of the root over the structs, and with `OutOfMemory` (1).
 pub fn evaluate_split(
     alloc: Global,
     batch: &Column,

@@ -22,8 +22,8 @@ use vx_types::{Column, VortexError, VortexResult};
 /// else the tree.
 ///
 /// The answer has the tree's type. Where the source of the plan faults nowhere on the batch, it has
-/// the batch's length, and in each row the source's meaning there. Asks a reader that allows just the plan's paths, where its
-/// batch is of the plan's type.
+/// the batch's length, and in each row the source's meaning there. Asks a reader that allows just the
+/// plan's paths, where its batch is of the plan's type.
 ///
 /// Refuses with `ScopeMismatch` (12) exactly where the batch is of another type than the plan's. Else
 /// with a fault (13 to 15 and 20) exactly where the plan's tree faults on the batch: that of the
