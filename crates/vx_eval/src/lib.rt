@@ -3,6 +3,7 @@
 
 mod across;
 mod arithmetic;
+mod beginnings;
 mod blocks;
 mod casting;
 mod choice;
@@ -13,6 +14,7 @@ mod constants;
 mod evaluation;
 mod fields;
 mod filling;
+mod lengths;
 mod logic;
 mod matching;
 mod merges;

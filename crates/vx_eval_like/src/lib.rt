@@ -1,12 +1,14 @@
-// Texts against the patterns of LIKE.
+// Texts against the patterns of LIKE, and against what they may begin with.
 #![tactic(auto)]
 
+mod beginnings;
 mod characters;
 mod laws;
 mod parts;
 mod pattern;
 mod walk;
 
+pub use beginnings::begins_with;
 pub use characters::split_first;
 pub use laws::accepts_what_is_like;
 pub use parts::{Part, first_part};

@@ -12,3 +12,4 @@ pub mod Orders
 pub mod Texts
 pub mod Likeness
 pub mod LikeMonotone
+pub mod Begun

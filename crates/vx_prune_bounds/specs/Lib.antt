@@ -6,3 +6,4 @@ pub mod Kernels
 pub mod Views
 pub mod Laws
 pub mod Beginnings
+pub mod Begun

@@ -2,6 +2,7 @@
 #![tactic(auto)]
 
 mod beginning;
+mod begun;
 mod bounds;
 mod comparing;
 mod endpoint;
@@ -12,6 +13,7 @@ mod like;
 mod shown;
 mod truths;
 
+pub use begun::begun_truths;
 pub use bounds::Bounds;
 pub use comparing::{between_truths, comparison_truths};
 pub use endpoint::Endpoint;

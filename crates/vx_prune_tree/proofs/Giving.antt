@@ -4,11 +4,11 @@ use Rattle.std.specs.Prelude.{if◌then◌else◌, not}
 use Rattle.std.proofs.lemmas.Bool.{and_from, and_parts}
 use Rattle.vx_value.specs.Fields.{field_value}
 use Rattle.vx_value.specs.Fits.{Fits, EachFits}
-use Rattle.vx_value.specs.Types.{Name, number, decimals, LogicalType, ty, atomic, struct, Fields, Datum, null, bool, struct_of, is_null_datum}
+use Rattle.vx_value.specs.Types.{Name, number, decimals, text, LogicalType, ty, atomic, struct, Fields, Datum, null, bool, utf8, struct_of, is_null_datum}
 use Rattle.vx_dtype.specs.Lists.{Forall2, forall2_nil, forall2_cons}
 use Rattle.vx_fn.specs.Functions.{Function}
-use Rattle.vx_fn.specs.Rows.{FnType, of_case_else, of_case, of_get_item, of_literal, of_pack, of_select, of_fill_null, of_zip, of_comparison, of_and, of_or, of_arithmetic, of_float_arithmetic, of_decimal_arithmetic, of_not, of_between, of_like, of_is_null, of_is_not_null, of_mask, of_cast}
-use Rattle.vx_fn.specs.Values.{bound_comparison, compared, fn_value, item_value, kleene_and, kleene_not, kleene_or, liked, select_value}
+use Rattle.vx_fn.specs.Rows.{FnType, of_case_else, of_case, of_get_item, of_literal, of_pack, of_select, of_fill_null, of_zip, of_comparison, of_and, of_or, of_arithmetic, of_float_arithmetic, of_decimal_arithmetic, of_not, of_between, of_like, of_is_null, of_is_not_null, of_mask, of_cast, of_starts_with, of_byte_length}
+use Rattle.vx_fn.specs.Values.{begun, bound_comparison, compared, counted_bytes, fn_value, item_value, kleene_and, kleene_not, kleene_or, liked, select_value}
 use Rattle.vx_fn.specs.declared.options.FieldSelection.{FieldSelection}
 use Rattle.vx_prune_bounds.proofs.Contained.{contains-exactly}
 use Rattle.vx_prune_bounds.proofs.Sounds.{truths_in-sound, truth_bounds-sound, not-sound, and-sound, or-sound, comparison-sound, between-sound, fill-sound, choice-sound, mask-sound, case-sound, is_null-sound, is_not_null-sound, shaped_as-sound}
@@ -18,6 +18,8 @@ use Rattle.vx_prune_bounds.specs.Comparing.{between_truths, comparison_truths}
 use Rattle.vx_prune_bounds.specs.Kernels.{null_truths, shaped_as}
 use Rattle.vx_prune_bounds.specs.Truths.{and_truths, not_truths, or_truths, truths_in}
 use Rattle.vx_prune_bounds.proofs.Likeness.{like-sound}
+use Rattle.vx_prune_bounds.proofs.Begun.{begun-sound}
+use Rattle.vx_prune_bounds.specs.Begun.{begun_truths}
 use Rattle.vx_prune_bounds.specs.Beginnings.{like_truths}
 use Rattle.vx_prune_tree.specs.Bounding.{unknown, item_bounds, fn_bounds}
 
@@ -40,6 +42,11 @@ select-sound : (sel : FieldSelection) (fs : Fields) (n : Bool) (x : Bounds) (v :
 select-sound sel fs n x null e h = shaped_as-sound x null null refl h
 select-sound sel fs n x (struct_of vs) e h = shaped_as-sound x (struct_of vs) (select_value sel (ty (struct fs) n ∷ []) (struct_of vs)) refl h
 select-sound sel fs n x _ e h = cc
+
+length-sound : (n : Bool) (x : Bounds) (v : Datum) → Fits v (ty (atomic text) n) → Contains x v → Contains (shaped_as x) (counted_bytes v)
+length-sound n x null e h = shaped_as-sound x null null refl h
+length-sound n x (utf8 t) e h = shaped_as-sound x (utf8 t) (counted_bytes (utf8 t)) refl h
+length-sound n x _ e h = cc
 
 pub fn_bounds-sound : {f : Function} {ts : List LogicalType} {t : LogicalType} {vs : List Datum} {xs : List Bounds} →
     FnType f ts t → EachFits vs ts → Forall2 Contains xs vs → Contains (fn_bounds f xs) (fn_value f ts vs)
@@ -74,3 +81,6 @@ fn_bounds-sound of_is_null (forall2_cons {x = v} e forall2_nil) (forall2_cons {x
 fn_bounds-sound of_is_not_null (forall2_cons {x = v} e forall2_nil) (forall2_cons {x = x} h forall2_nil) = truth_bounds-sound (not_truths (null_truths x)) (bool (not (is_null_datum v))) (is_not_null-sound x v h)
 fn_bounds-sound of_mask (forall2_cons {x = v} e (forall2_cons {x = m} f forall2_nil)) (forall2_cons {x = x} h (forall2_cons {x = y} g forall2_nil)) = mask-sound x (truths_in y) v m h (truths_in-sound y m false f g)
 fn_bounds-sound (of_cast s) (forall2_cons e forall2_nil) (forall2_cons h forall2_nil) = h
+fn_bounds-sound (of_starts_with {n = n} {m = m}) (forall2_cons {x = v} e (forall2_cons {x = w} f forall2_nil)) (forall2_cons {x = x} h (forall2_cons {x = y} g forall2_nil)) =
+    truth_bounds-sound (begun_truths x y) (begun v w) (begun-sound x y v w n m e f h g)
+fn_bounds-sound (of_byte_length {n = n}) (forall2_cons {x = v} e forall2_nil) (forall2_cons {x = x} h forall2_nil) = length-sound n x v e h
