@@ -102,6 +102,7 @@ impl<'a> RefusedNode<'a> {
             (ScalarFnRef::Binary(_) | ScalarFnRef::Like(_) | ScalarFnRef::StartsWith(_), _) => {
                 &[Role::Left, Role::Right]
             }
+            (ScalarFnRef::ListContains(_), _) => &[Role::Left, Role::Right],
             (ScalarFnRef::Between(_), _) => &[Role::Value, Role::Lower, Role::Upper],
             (ScalarFnRef::FillNull(_), _) => &[Role::Value, Role::Fill],
             (ScalarFnRef::Zip(_), _) => &[Role::Value, Role::Other],

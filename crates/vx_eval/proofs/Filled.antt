@@ -121,6 +121,14 @@ repeated_still f ts n m c x d r is long h =
     let same : replicate n d ≡ x = ap (λ k. replicate k d) (sym many) ∙ sym is in
     subst (λ y. Evaluates f ts n (c ∷ y ∷ []) r) same h
 
+-- the same of the first of two columns
+pub repeated_first : (f : Function) (ts : List LogicalType) (n m : ℕ) (x c : List Datum) (d : Datum) (r : Result Rows VortexError) → x ≡ replicate m d → length x ≡ n →
+    Evaluates f ts n (replicate n d ∷ c ∷ []) r → Evaluates f ts n (x ∷ c ∷ []) r
+repeated_first f ts n m x c d r is long h =
+    let many : m ≡ n = sym (length-replicate m d) ∙ ap length (sym is) ∙ long in
+    let same : replicate n d ≡ x = ap (λ k. replicate k d) (sym many) ∙ sym is in
+    subst (λ y. Evaluates f ts n (y ∷ c ∷ []) r) same h
+
 -- what a comparison tells of each value of a column and of one value
 pub compared_with : (op : Operation) (ts : List LogicalType) (n : ℕ) (c : List Datum) (d : Datum) → IsTrue (is_comparison op) → length c ≡ n →
     node_answer (binary op) ts (rows_of n (c ∷ replicate n d ∷ [])) ≡ Ok (map (λ v. binary_value op v d) c)

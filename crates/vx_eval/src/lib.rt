@@ -17,6 +17,7 @@ mod filling;
 mod lengths;
 mod logic;
 mod matching;
+mod members;
 mod merges;
 mod merging;
 mod nodes;

@@ -12,7 +12,8 @@ ghost use Rattle.vx_eval.specs.Items.{is_arithmetic};
 
 use crate::rows::Rows;
 use crate::{
-    arithmetic, beginnings, casting, choice, comparison, fields, lengths, logic, nulls, text,
+    arithmetic, beginnings, casting, choice, comparison, fields, lengths, logic, members, nulls,
+    text,
 };
 use std::alloc::Global;
 use vx_fn::{Operator, ScalarFnRef};
@@ -76,6 +77,10 @@ pub fn apply<'a>(
         ScalarFnRef::StartsWith(_) => {
             let (input, prefix) = pair(columns.as_slice());
             beginnings::starts_with(alloc, count, input, prefix)
+        }
+        ScalarFnRef::ListContains(_) => {
+            let (list, needle) = pair(columns.as_slice());
+            members::list_contains(alloc, count, list, needle)
         }
         ScalarFnRef::ByteLength(_) => lengths::byte_length(
             alloc,

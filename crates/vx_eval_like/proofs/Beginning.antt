@@ -1,9 +1,13 @@
 -- A text begins with another by its characters exactly where it does by its bytes.
-use Rattle.std.proofs.Common.{◌≡◌, ℕ, true, false, Bool, List, ◌++◌, length, drop, refl, sym, ap, ◌∙◌, chars, encode_utf8_all, nat_eq, IsUtf8}
-use Rattle.std.specs.List.{starts_with}
-use Rattle.std.proofs.lemmas.Bool.{eqb-true, eq-eqb}
+use Rattle.std.proofs.Common.{◌≡◌, ℕ, ◌==◌, true, false, Bool, List, [], ◌∷◌, ◌++◌, map, length, drop, refl, sym, ap, subst, ◌∙◌, chars, encode_utf8_all, nat_eq, IsUtf8, Option, Some, None}
+use Rattle.std.specs.Prelude.{◌≢◌, option_map, option_and_then, if◌then◌else◌, MatchOption}
+use denote.Ref.{Bor}
+use Rattle.std.specs.List.{starts_with, list_all}
+use Rattle.std.proofs.lemmas.Bool.{eqb-true, eq-eqb, and_parts, or_parts, or_right, not-true}
 use Rattle.std.proofs.lemmas.Slice.Eq.{starts_is}
-use Rattle.std.proofs.lemmas.Str.{encodes-chars, encodes-append, chars-append}
+use Rattle.std.proofs.lemmas.Str.{encodes-chars, encodes-append, chars-append, IsUtf8-from_is_utf8}
+use Rattle.vx_fn.specs.Values.{Part, any_text, just, parts, some_rest, matches, is_like, starts_with_text}
+use Rattle.vx_eval_like.specs.Beginnings.{stands_for_itself, is_plain_text, before_percent, beginning_of, LikeIsBeginning}
 
 -- what begins with a list is that list and more
 parted : (xs p : List ℕ) → starts_with nat_eq xs p ≡ true → xs ≡ p ++ drop (length p) xs
@@ -27,3 +31,79 @@ by_characters t p u v =
     let rest = drop (length (chars p)) (chars t) in
     joined t p (encode_utf8_all rest)
     (sym (encodes-chars t u) ∙ ap encode_utf8_all (parted (chars t) (chars p) e) ∙ encodes-append (chars p) rest ∙ ap (λ q. q ++ encode_utf8_all rest) (encodes-chars p v)))
+
+-- ---- patterns of a beginning
+
+percent_found : (p q : List ℕ) → before_percent p ≡ Some q → p ≡ q ++ 37 ∷ []
+percent_found [] q e = cc
+percent_found (c ∷ []) q e = go (c == 37) refl e
+  where
+    go : (b : Bool) → (c == 37) ≡ b → (if b then Some [] else None) ≡ Some q → c ∷ [] ≡ q ++ 37 ∷ []
+    go true h e = let none : [] ≡ q = cc in rw (← none) (ap (λ x. x ∷ []) (eqb-true c 37 h))
+    go false h e = cc
+percent_found (c ∷ d ∷ cs) q e = go (before_percent (d ∷ cs)) refl e
+  where
+    go : (o : Option (List ℕ)) → before_percent (d ∷ cs) ≡ o → option_map (λ r. c ∷ r) o ≡ Some q → c ∷ d ∷ cs ≡ q ++ 37 ∷ []
+    go None h e = cc
+    go (Some r) h e = let same : c ∷ r ≡ q = cc in ap (λ x. c ∷ x) (percent_found (d ∷ cs) r h) ∙ ap (λ x. x ++ 37 ∷ []) same
+
+pub percent_behind : (q : List ℕ) → before_percent (q ++ 37 ∷ []) ≡ Some q
+percent_behind [] = refl
+percent_behind (c ∷ []) = refl
+percent_behind (c ∷ d ∷ q) = ap (option_map (λ r. c ∷ r)) (percent_behind (d ∷ q))
+
+pub no_percent : (p : List ℕ) → ((q : List ℕ) → p ≡ q ++ 37 ∷ [] → ⊥) → before_percent p ≡ None
+no_percent p h = go (before_percent p) refl
+  where
+    go : (o : Option (List ℕ)) → before_percent p ≡ o → before_percent p ≡ None
+    go None e = e
+    go (Some q) e = absurd (h q (percent_found p q e))
+
+-- such a pattern's parts are its characters, and then any text
+abbrev then_any : List ℕ → List Part
+then_any cs = map just cs ++ any_text ∷ []
+
+plain_part : (c : ℕ) (cs : List ℕ) → stands_for_itself c ≡ true → parts false (c ∷ cs) ≡ just c ∷ parts false cs
+plain_part c cs h =
+    let no = or_parts _ _ (not-true _ h) in
+    let none = or_parts _ _ no.1 in
+    rw (none.1, no.0, none.0) refl
+
+spelled : (cs : List ℕ) → list_all stands_for_itself cs ≡ true → parts false (cs ++ 37 ∷ []) ≡ then_any cs
+spelled [] h = refl
+spelled (c ∷ cs) h = let x = and_parts _ _ h in plain_part c (cs ++ 37 ∷ []) x.0 ∙ ap (λ ps. just c ∷ ps) (spelled cs x.1)
+
+any_rest : (cs : List ℕ) → some_rest (matches []) cs ≡ true
+any_rest [] = refl
+any_rest (c ∷ cs) = or_right _ _ (any_rest cs)
+
+-- the one way round or the other
+turned : (a b : ℕ) → (a == b) ≡ nat_eq b a
+turned a b = same (a == b) (nat_eq b a) (λ e. eq-eqb b a (sym (eqb-true a b e))) (λ e. eq-eqb a b (sym (eqb-true b a e)))
+
+begun_matches : (cs ds : List ℕ) → matches (then_any cs) ds ≡ starts_with nat_eq ds cs
+begun_matches [] ds = any_rest ds
+begun_matches (c ∷ cs) [] = refl
+begun_matches (c ∷ cs) (d ∷ ds) = rw (turned d c, begun_matches cs ds) refl
+
+pub like_is : LikeIsBeginning
+like_is t p q e = go (before_percent p) refl e
+  where
+    told : (r : List ℕ) → before_percent p ≡ Some r → (b : Bool) → is_plain_text r ≡ b → (if b then Some r else None) ≡ Some q → is_like false t p ≡ starts_with_text t q
+    told r h true plain e =
+        let same : r ≡ q = cc in
+        let x = and_parts _ _ plain in
+        let text = IsUtf8-from_is_utf8 r x.0 in
+        let read : chars p ≡ chars r ++ 37 ∷ [] = ap chars (percent_found p r h) ∙ chars-append r (37 ∷ []) text in
+        subst (λ z. is_like false t p ≡ starts_with_text t z) same
+        (ap (λ cs. matches (parts false cs) (chars t)) read ∙ ap (λ ps. matches ps (chars t)) (spelled (chars r) x.1) ∙ begun_matches (chars r) (chars t))
+    told r h false plain e = cc
+
+    go : (o : Option (List ℕ)) → before_percent p ≡ o → option_and_then (λ r. if is_plain_text r then Some r else None) o ≡ Some q → is_like false t p ≡ starts_with_text t q
+    go None h e = cc
+    go (Some r) h e = told r h (is_plain_text r) refl e
+
+-- what is left of a pattern whose last character is taken off
+pub stripped : (p : List ℕ) (r : Option (Bor (List ℕ))) → MatchOption r ((front : List ℕ) → p ≢ front ++ 37 ∷ []) (λ x. p ≡ x.now ++ 37 ∷ []) → option_map (λ s. s.now) r ≡ before_percent p
+stripped p None h = sym (no_percent p h)
+stripped p (Some x) h = sym (ap before_percent h ∙ percent_behind x.now)

@@ -8,8 +8,8 @@ mod parts;
 mod pattern;
 mod walk;
 
-pub use beginnings::begins_with;
+pub use beginnings::{beginning_of, begins_with};
 pub use characters::split_first;
-pub use laws::accepts_what_is_like;
+pub use laws::{accepts_what_is_like, like_is_beginning};
 pub use parts::{Part, first_part};
 pub use pattern::{Pattern, is_like};

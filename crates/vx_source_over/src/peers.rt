@@ -67,7 +67,8 @@ pub(crate) fn is_peer(scalar_fn: &ScalarFnRef, i: usize) -> bool
         | ScalarFnRef::Mask(_)
         | ScalarFnRef::Cast(_)
         | ScalarFnRef::StartsWith(_)
-        | ScalarFnRef::ByteLength(_) => false,
+        | ScalarFnRef::ByteLength(_)
+        | ScalarFnRef::ListContains(_) => false,
     }
 }
 
@@ -97,7 +98,8 @@ pub(crate) fn has_type_of_peers(scalar_fn: &ScalarFnRef) -> bool
         | ScalarFnRef::Mask(_)
         | ScalarFnRef::Cast(_)
         | ScalarFnRef::StartsWith(_)
-        | ScalarFnRef::ByteLength(_) => false,
+        | ScalarFnRef::ByteLength(_)
+        | ScalarFnRef::ListContains(_) => false,
     }
 }
 
