@@ -1,12 +1,14 @@
 -- Characters inside texts, one after another.
-use Rattle.std.proofs.Common.{◌≡◌, ℕ, List, [], ◌∷◌, ◌++◌, codes, sym, ap, ◌∙◌, append_assoc, append-nil}
+use Rattle.std.proofs.Common.{◌≡◌, ℕ, List, [], ◌∷◌, ◌++◌, map, false, codes, sym, ap, ◌∙◌, append_assoc, append-nil}
 use Rattle.std.specs.List.{flat_map}
 use Rattle.std.specs.Prelude.{encode_utf8_all}
 use Rattle.std.proofs.lemmas.Grind.{flat_map-append}
 use Rattle.std.proofs.lemmas.Str.{encodes-append}
 use Rattle.vx_sql.specs.declared.quotes.Quoting.{Quoting}
 use Rattle.vx_sql.specs.Quotes.{inside}
-use Rattle.vx_sql.specs.Patterns.{enclosed}
+use Rattle.vx_fn.specs.Values.{Part, any_text, just}
+use Rattle.vx_eval_like.specs.Patterns.{characters}
+use Rattle.vx_sql.specs.Patterns.{enclosed, beginning_parts}
 
 -- what stands for characters inside a text, as it is written
 abbrev pub written : Quoting → List ℕ → List ℕ
@@ -45,3 +47,17 @@ written-enclosed_pair q c d =
 pub written-pair : (q : Quoting) (c d : ℕ) → encode_utf8_all (inside q c) ++ encode_utf8_all (inside q d) ≡ written q (c ∷ d ∷ [])
 written-pair q c d =
     ap (λ xs. encode_utf8_all (inside q c) ++ encode_utf8_all xs) (sym (append-nil (inside q d))) ∙ sym (encodes-append (inside q c) (inside q d ++ []))
+
+-- ---- the pattern of a beginning
+
+-- one character more
+pub beginning_turn : (spell : Part → List ℕ) (q : Quoting) (done all rest after : List ℕ) (c : ℕ) → characters false rest ≡ c ∷ characters false after → done ++ written q (flat_map spell (beginning_parts rest)) ≡ all
+    → (done ++ written q (spell (just c))) ++ written q (flat_map spell (beginning_parts after)) ≡ all
+beginning_turn spell q done all rest after c e h =
+    thing_turn spell q done all (beginning_parts rest) (beginning_parts after) (just c) (ap (λ cs. map just cs ++ any_text ∷ []) e) h
+
+-- no character is left, so any text ends the pattern
+pub beginning_end : (spell : Part → List ℕ) (q : Quoting) (done all rest : List ℕ) → characters false rest ≡ [] → done ++ written q (flat_map spell (beginning_parts rest)) ≡ all
+    → done ++ written q (spell any_text) ≡ all
+beginning_end spell q done all rest e h =
+    sym (append-nil (done ++ written q (spell any_text))) ∙ thing_turn spell q done all (beginning_parts rest) [] any_text (ap (λ cs. map just cs ++ any_text ∷ []) e) h

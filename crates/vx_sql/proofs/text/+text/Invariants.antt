@@ -101,6 +101,12 @@ decreases-structs::write_field g l = 16 * sizes_of (unbound_each (bounds_of l.ch
 abbrev pub decreases-tests::write_null_test : goal.decreases-tests::write_null_test
 decreases-tests::write_null_test g l = 16 * sizes_of (unbound_each (bounds_of l.children.nodes.now)) + 5
 
+abbrev pub decreases-texts::write_beginning : goal.decreases-texts::write_beginning
+decreases-texts::write_beginning g l = 16 * sizes_of (unbound_each (bounds_of l.children.nodes.now)) + 5
+
+abbrev pub decreases-texts::write_length : goal.decreases-texts::write_length
+decreases-texts::write_length g l = 16 * sizes_of (unbound_each (bounds_of l.children.nodes.now)) + 5
+
 abbrev pub decreases-tests::write_like : goal.decreases-tests::write_like
 decreases-tests::write_like g l = 16 * sizes_of (unbound_each (bounds_of l.children.nodes.now)) + 5
 
