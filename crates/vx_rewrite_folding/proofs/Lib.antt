@@ -2,3 +2,4 @@ pub mod Nullable
 pub mod Shapes
 pub mod Pairs
 pub mod Evaluated
+pub mod Likes

@@ -60,7 +60,7 @@ fn text_literal(alloc: Global, dtype: &DType, text: &str) -> VortexResult<BoundE
     requires { Fits (utf8 text.now) (type_of dtype.now) }
     ensures { ReturnsOrOom bound_of result (Ok (literal_node (type_of dtype.now) (utf8 text.now))) }
 {
-    let value = Value::Utf8(text.to_string(alloc)?);
+    let value = Value::Utf8(String::from_str(alloc, text)?);
     let scalar = Scalar::try_new(dtype.clone()?, value)?;
     let literal = ScalarFnRef::Literal(scalar);
     BoundExpression::new_typed(alloc, dtype.clone()?, literal, Vec::new(alloc))
