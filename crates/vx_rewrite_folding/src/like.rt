@@ -32,7 +32,8 @@ pub(crate) fn known_of_like<'a>(
         return None;
     }
     let (input, pattern) = pair(children)?;
-    let Value::Utf8(text) = literal_value(pattern)?.value() else {
+    let scalar = literal_value(pattern)?;
+    let Value::Utf8(text) = scalar.value() else {
         return None;
     };
     let prefix = beginning_of(text.as_str())?;
