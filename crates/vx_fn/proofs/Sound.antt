@@ -1,8 +1,8 @@
 -- A well-typed tree gives a value of its type at each row of a batch on which it doesn't fault.
 use Rattle.std.proofs.Common.{IsTrue, ◌&&◌, ◌≡◌, ℕ, zero, suc, inl, inr, ◌+◌, ◌*◌, List, [], ◌∷◌, length, refl, sym, subst, Bool, true, false, ◌||◌, arith, ◌⊎◌}
 use Rattle.std.specs.Prelude.{Some, None, not, if◌then◌else◌, nat_lt, min, ◌^◌, ◌-◌}
-use Rattle.std.proofs.lemmas.Bool.Decides.{nat_tests}
-use Rattle.std.proofs.lemmas.Bool.{eqb-true, not-false, and_parts, or_cases, or_left, or_right, or_parts}
+use Rattle.std.proofs.Math.Nat.{min-le_right}
+use Rattle.std.proofs.lemmas.Bool.{eqb-true, lt-ltb, not-false, and_parts, or_cases, or_left, or_right, or_parts}
 use Rattle.vx_value.proofs.Fitting.{fits-not_null, fits-wider, fits-nullable, join-fits-left, join-fits-right, Into, into_none, into_more, union_all-into, field_value-fits, project-fits, pack-fits}
 use Rattle.vx_dtype.proofs.Known.{first_unknown-filter, first_unknown-own}
 use Rattle.vx_dtype.proofs.Unions.{same_atomic-eq}
@@ -91,7 +91,7 @@ begun-fits _ _ n m e h = cc
 
 -- a number that is cut off at the greatest of its type
 cut_off : (k : ℕ) → nat_lt (min k (2 ^ 63 - 1)) (2 ^ 63) ≡ true
-cut_off k = grind (arith, nat_tests)
+cut_off k = lt-ltb (min k (2 ^ 63 - 1)) (2 ^ 63) (omega (arith, min-le_right k (2 ^ 63 - 1)))
 
 counted-fits : (v : Datum) (n : Bool) → Fits v (ty (atomic text) n) → Fits (counted_bytes v) (ty (atomic (number I64)) n)
 counted-fits null n e = e
