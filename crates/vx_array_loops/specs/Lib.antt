@@ -1,4 +1,5 @@
 pub mod Numbers
 pub mod Comparisons
+pub mod Computations
 pub mod WordBits
 pub mod Logic

@@ -1,9 +1,11 @@
 // Whole numbers of fixed width.
-ghost use Rattle.std.specs.Prelude.{◌≡◌, ℤ, ◌+ℤ◌, Bool, MatchOption, false, not, pos, true};
+ghost use Rattle.std.specs.Prelude.{◌≡◌, ℤ, Bool, MatchOption, false, pos, true};
 ghost use Rattle.std.specs.Ordering.{int_cmp};
 ghost use Rattle.vx_array_loops.specs.Comparisons.{holds};
+ghost use Rattle.vx_array_loops.specs.Computations.{computed, fails};
 
 use crate::comparison::Comparison;
+use crate::computation::Computation;
 
 /// A whole number of some width, with a sign or without.
 pub trait Number: Copy + Drop {
@@ -30,8 +32,9 @@ pub trait Number: Copy + Drop {
     fn holds(self, comparison: Comparison, other: Self) -> bool
         ensures { result ≡ holds comparison (int_cmp (number self) (number other)) };
 
-    /// The sum where it is one of the type, beside whether it isn't.
-    fn sum(self, other: Self) -> (Self, bool)
-        ensures over { result.1 ≡ not (fits (number self +ℤ number other)) }
-        ensures value { result.1 ≡ false → number result.0 ≡ (number self +ℤ number other) };
+    /// What is computed of the number and the other one, beside whether there is no such number of the type:
+    /// where it divides by zero, or the result is out of the type's range.
+    fn computed(self, computation: Computation, other: Self) -> (Self, bool)
+        ensures fails { result.1 ≡ fails fits computation (number self) (number other) }
+        ensures value { result.1 ≡ false → number result.0 ≡ computed computation (number self) (number other) };
 }

@@ -3,6 +3,7 @@ ghost use Rattle.std.specs.Prelude.{true};
 ghost use Rattle.vx_array_loops.specs.Numbers.{in_range};
 
 use crate::comparison::Comparison;
+use crate::computation::Computation;
 use crate::number::Number;
 
 impl Number for i8 {
@@ -41,8 +42,20 @@ impl Number for i8 {
     }
 
     #[inline(always)]
-    fn sum(self, other: i8) -> (i8, bool) {
-        self.overflowing_add(other)
+    fn computed(self, computation: Computation, other: i8) -> (i8, bool) {
+        match computation {
+            Computation::Sum => self.overflowing_add(other),
+            Computation::Difference => self.overflowing_sub(other),
+            Computation::Product => self.overflowing_mul(other),
+            Computation::Quotient => match self.checked_div(other) {
+                Some(quotient) => (quotient, false),
+                None => (0, true),
+            },
+            Computation::Remainder => match other {
+                0 => (0, true),
+                _ => (self.wrapping_rem(other), false),
+            },
+        }
     }
 }
 
@@ -82,8 +95,20 @@ impl Number for i16 {
     }
 
     #[inline(always)]
-    fn sum(self, other: i16) -> (i16, bool) {
-        self.overflowing_add(other)
+    fn computed(self, computation: Computation, other: i16) -> (i16, bool) {
+        match computation {
+            Computation::Sum => self.overflowing_add(other),
+            Computation::Difference => self.overflowing_sub(other),
+            Computation::Product => self.overflowing_mul(other),
+            Computation::Quotient => match self.checked_div(other) {
+                Some(quotient) => (quotient, false),
+                None => (0, true),
+            },
+            Computation::Remainder => match other {
+                0 => (0, true),
+                _ => (self.wrapping_rem(other), false),
+            },
+        }
     }
 }
 
@@ -123,8 +148,20 @@ impl Number for i32 {
     }
 
     #[inline(always)]
-    fn sum(self, other: i32) -> (i32, bool) {
-        self.overflowing_add(other)
+    fn computed(self, computation: Computation, other: i32) -> (i32, bool) {
+        match computation {
+            Computation::Sum => self.overflowing_add(other),
+            Computation::Difference => self.overflowing_sub(other),
+            Computation::Product => self.overflowing_mul(other),
+            Computation::Quotient => match self.checked_div(other) {
+                Some(quotient) => (quotient, false),
+                None => (0, true),
+            },
+            Computation::Remainder => match other {
+                0 => (0, true),
+                _ => (self.wrapping_rem(other), false),
+            },
+        }
     }
 }
 
@@ -164,7 +201,19 @@ impl Number for i64 {
     }
 
     #[inline(always)]
-    fn sum(self, other: i64) -> (i64, bool) {
-        self.overflowing_add(other)
+    fn computed(self, computation: Computation, other: i64) -> (i64, bool) {
+        match computation {
+            Computation::Sum => self.overflowing_add(other),
+            Computation::Difference => self.overflowing_sub(other),
+            Computation::Product => self.overflowing_mul(other),
+            Computation::Quotient => match self.checked_div(other) {
+                Some(quotient) => (quotient, false),
+                None => (0, true),
+            },
+            Computation::Remainder => match other {
+                0 => (0, true),
+                _ => (self.wrapping_rem(other), false),
+            },
+        }
     }
 }

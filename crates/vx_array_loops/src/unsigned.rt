@@ -3,6 +3,7 @@ ghost use Rattle.std.specs.Prelude.{pos, false};
 ghost use Rattle.vx_array_loops.specs.Numbers.{in_range};
 
 use crate::comparison::Comparison;
+use crate::computation::Computation;
 use crate::number::Number;
 
 impl Number for u8 {
@@ -41,8 +42,20 @@ impl Number for u8 {
     }
 
     #[inline(always)]
-    fn sum(self, other: u8) -> (u8, bool) {
-        self.overflowing_add(other)
+    fn computed(self, computation: Computation, other: u8) -> (u8, bool) {
+        match computation {
+            Computation::Sum => self.overflowing_add(other),
+            Computation::Difference => self.overflowing_sub(other),
+            Computation::Product => self.overflowing_mul(other),
+            Computation::Quotient => match self.checked_div(other) {
+                Some(quotient) => (quotient, false),
+                None => (0, true),
+            },
+            Computation::Remainder => match other {
+                0 => (0, true),
+                _ => (self % other, false),
+            },
+        }
     }
 }
 
@@ -82,8 +95,20 @@ impl Number for u16 {
     }
 
     #[inline(always)]
-    fn sum(self, other: u16) -> (u16, bool) {
-        self.overflowing_add(other)
+    fn computed(self, computation: Computation, other: u16) -> (u16, bool) {
+        match computation {
+            Computation::Sum => self.overflowing_add(other),
+            Computation::Difference => self.overflowing_sub(other),
+            Computation::Product => self.overflowing_mul(other),
+            Computation::Quotient => match self.checked_div(other) {
+                Some(quotient) => (quotient, false),
+                None => (0, true),
+            },
+            Computation::Remainder => match other {
+                0 => (0, true),
+                _ => (self % other, false),
+            },
+        }
     }
 }
 
@@ -123,8 +148,20 @@ impl Number for u32 {
     }
 
     #[inline(always)]
-    fn sum(self, other: u32) -> (u32, bool) {
-        self.overflowing_add(other)
+    fn computed(self, computation: Computation, other: u32) -> (u32, bool) {
+        match computation {
+            Computation::Sum => self.overflowing_add(other),
+            Computation::Difference => self.overflowing_sub(other),
+            Computation::Product => self.overflowing_mul(other),
+            Computation::Quotient => match self.checked_div(other) {
+                Some(quotient) => (quotient, false),
+                None => (0, true),
+            },
+            Computation::Remainder => match other {
+                0 => (0, true),
+                _ => (self % other, false),
+            },
+        }
     }
 }
 
@@ -164,7 +201,19 @@ impl Number for u64 {
     }
 
     #[inline(always)]
-    fn sum(self, other: u64) -> (u64, bool) {
-        self.overflowing_add(other)
+    fn computed(self, computation: Computation, other: u64) -> (u64, bool) {
+        match computation {
+            Computation::Sum => self.overflowing_add(other),
+            Computation::Difference => self.overflowing_sub(other),
+            Computation::Product => self.overflowing_mul(other),
+            Computation::Quotient => match self.checked_div(other) {
+                Some(quotient) => (quotient, false),
+                None => (0, true),
+            },
+            Computation::Remainder => match other {
+                0 => (0, true),
+                _ => (self % other, false),
+            },
+        }
     }
 }
