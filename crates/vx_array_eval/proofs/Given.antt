@@ -11,8 +11,8 @@ use Rattle.vx_dtype.specs.declared.dtype.Nullability.{Nullability}
 use Rattle.vx_value.specs.StructColumns.{struct_rows}
 use Rattle.vx_value.specs.Types.{Name, LogicalType, ty, Shape, atomic, number, floating, Datum, null, is_null_datum}
 use Rattle.vx_value.specs.Views.{admits_null, type_of}
-use Rattle.vx_fn.specs.Faults.{differs, is_bad_fill, is_outside, some_differ}
-use Rattle.vx_floats.specs.declared.arithmetic.Arithmetic.TheVariants.{Sum}
+use Rattle.vx_fn.specs.Faults.{differs, has_fault, is_bad_fill, some_differ}
+use Rattle.vx_floats.specs.declared.arithmetic.Arithmetic.{Arithmetic}
 use Rattle.vx_fn.specs.Functions.{Function, Operation, compares, and_also, or_else, computes, binary, between, case_when, fill_null, like, literal, logical_not, is_atomic, is_null, is_not_null, mask, pack, zip}
 use Rattle.vx_fn.specs.Values.{bound_comparison, compared, kleene_and, kleene_or, kleene_not, liked, computed}
 use Rattle.vx_fn.specs.Views.{function_of}
@@ -21,9 +21,8 @@ use Rattle.vx_array.specs.declared.lanes.Lanes.{Lanes}
 use Rattle.vx_array.specs.Rows.{lanes_rows, lanes_each}
 use Rattle.vx_array_kernels.specs.Asked.{asked}
 use Rattle.vx_array_kernels.specs.Choices.{case_rows, chosen_rows, filled_rows, masked_rows}
-use Rattle.vx_array_kernels.specs.FloatSums.{FindsFloatSums}
 use Rattle.vx_array_kernels.specs.Found.{Finds}
-use Rattle.vx_array_kernels.specs.Sums.{FindsSums}
+use Rattle.vx_array_kernels.specs.Results.{FindsResults}
 use Rattle.vx_array_kernels.specs.declared.pair.Pair.{Pair}
 use Rattle.vx_array_kernels.specs.Truths.{both_rows, null_told, value_told}
 use Rattle.vx_eval.specs.Columns.{rows_of, node_answer}
@@ -77,10 +76,10 @@ zip_given ts n v w m rows is = given zip ts n (v ∷ w ∷ m ∷ []) rows refl i
 pub mask_given : (ts : List LogicalType) (n : ℕ) (v m rows : List Datum) → rows ≡ masked_rows n v m → node_answer mask ts (rows_of n (v ∷ m ∷ [])) ≡ Ok rows
 mask_given ts n v m rows is = given mask ts n (v ∷ m ∷ []) rows refl is
 
--- sums that the type of the first column holds
-pub sum_given : (s : Shape) (m : Bool) (ts : List LogicalType) (n : ℕ) (l r rows : List Datum) → rows ≡ both_rows n (computed Sum) l r → ((m : Bool) (k : ℕ) → k < n → is_outside (ty s m ∷ []) (computed Sum (get_or l k null) (get_or r k null)) ≡ false) →
-    node_answer (binary (computes Sum)) (ty s m ∷ ts) (rows_of n (l ∷ r ∷ [])) ≡ Ok rows
-sum_given s m ts n l r rows is inside = given (binary (computes Sum)) (ty s m ∷ ts) n (l ∷ r ∷ []) rows (arithmetic_quiet Sum (ty s m) ts n l r (inside m)) is
+-- arithmetic without a fault
+pub computed_given : (a : Arithmetic) (s : Shape) (m : Bool) (ts : List LogicalType) (n : ℕ) (l r rows : List Datum) → rows ≡ both_rows n (computed a) l r → ((m : Bool) (k : ℕ) → k < n → has_fault a (ty s m ∷ []) (get_or l k null ∷ get_or r k null ∷ []) ≡ false) →
+    node_answer (binary (computes a)) (ty s m ∷ ts) (rows_of n (l ∷ r ∷ [])) ≡ Ok rows
+computed_given a s m ts n l r rows is quiet = given (binary (computes a)) (ty s m ∷ ts) n (l ∷ r ∷ []) rows (arithmetic_quiet a (ty s m) ts n l r (quiet m)) is
 
 -- one value in place of the nulls
 pub fill_given : (t : LogicalType) (ts : List LogicalType) (n m : ℕ) (x f rows : List Datum) (d : Datum) → is_atomic t ≡ true → f ≡ replicate m d → length f ≡ n → is_null_datum d ≡ false → differs d d ≡ false → rows ≡ filled_rows n x f →
@@ -139,27 +138,18 @@ three_of (a ∷ b ∷ c ∷ d ∷ xs) x y z long is at third = absurd (omega ari
 pub number_typed : (p : PType) (n : Nullability) → type_of (DType.Primitive p n) ≡ ty (atomic (number p)) (admits_null n)
 number_typed p n = search (rules, the_types)
 
--- sums that are found
-pub sums_found : {E : Type 0} (node : Node) (pair : Pair) (p : PType) (m : Bool) (ts : List LogicalType) (r : Result (Option Lanes) E) → function_of node.function.now ≡ binary (computes Sum) → lanes_each node.below.now ≡ lanes_rows pair.lhs.now ∷ lanes_rows pair.rhs.now ∷ [] → pair.count ≡ node.count →
-    types_of node ≡ ty (atomic (number p)) m ∷ ts → FindsSums p pair r → FindsAnswer node r
-sums_found node pair p m ts (Ok (Some out)) of two counted typed found =
-    at_node node (binary (computes Sum)) (lanes_rows pair.lhs.now ∷ lanes_rows pair.rhs.now ∷ []) pair.count (lanes_rows out) of two counted
-    (ap (λ us. node_answer (binary (computes Sum)) us (rows_of pair.count (lanes_rows pair.lhs.now ∷ lanes_rows pair.rhs.now ∷ []))) typed ∙ sum_given (atomic (number p)) m ts pair.count (lanes_rows pair.lhs.now) (lanes_rows pair.rhs.now) (lanes_rows out) found.0 found.1)
-sums_found node pair p m ts (Ok None) of two counted typed found = tt
-sums_found node pair p m ts (Err e) of two counted typed found = tt
-
--- of floating-point numbers
+-- the type of floating-point numbers
 pub float_typed : (f : FloatType) (n : Nullability) → type_of (DType.Float f n) ≡ ty (atomic (floating f)) (admits_null n)
 float_typed f n = search (rules, the_types)
 
-pub float_sums_found : {E : Type 0} (node : Node) (pair : Pair) (f : FloatType) (m : Bool) (ts : List LogicalType) (r : Result (Option Lanes) E) → function_of node.function.now ≡ binary (computes Sum) → lanes_each node.below.now ≡ lanes_rows pair.lhs.now ∷ lanes_rows pair.rhs.now ∷ [] → pair.count ≡ node.count →
-    types_of node ≡ ty (atomic (floating f)) m ∷ ts → FindsFloatSums pair r → FindsAnswer node r
-float_sums_found node pair f m ts (Ok (Some out)) of two counted typed found =
-    at_node node (binary (computes Sum)) (lanes_rows pair.lhs.now ∷ lanes_rows pair.rhs.now ∷ []) pair.count (lanes_rows out) of two counted
-    (ap (λ us. node_answer (binary (computes Sum)) us (rows_of pair.count (lanes_rows pair.lhs.now ∷ lanes_rows pair.rhs.now ∷ []))) typed
-    ∙ sum_given (atomic (floating f)) m ts pair.count (lanes_rows pair.lhs.now) (lanes_rows pair.rhs.now) (lanes_rows out) found.0 (found.1 f))
-float_sums_found node pair f m ts (Ok None) of two counted typed found = tt
-float_sums_found node pair f m ts (Err e) of two counted typed found = tt
+-- results that are found
+pub results_found : {E : Type 0} (node : Node) (pair : Pair) (a : Arithmetic) (s : Shape) (m : Bool) (ts : List LogicalType) (r : Result (Option Lanes) E) → function_of node.function.now ≡ binary (computes a) → lanes_each node.below.now ≡ lanes_rows pair.lhs.now ∷ lanes_rows pair.rhs.now ∷ [] → pair.count ≡ node.count →
+    types_of node ≡ ty s m ∷ ts → FindsResults a s pair r → FindsAnswer node r
+results_found node pair a s m ts (Ok (Some out)) of two counted typed found =
+    at_node node (binary (computes a)) (lanes_rows pair.lhs.now ∷ lanes_rows pair.rhs.now ∷ []) pair.count (lanes_rows out) of two counted
+    (ap (λ us. node_answer (binary (computes a)) us (rows_of pair.count (lanes_rows pair.lhs.now ∷ lanes_rows pair.rhs.now ∷ []))) typed ∙ computed_given a s m ts pair.count (lanes_rows pair.lhs.now) (lanes_rows pair.rhs.now) (lanes_rows out) found.0 found.1)
+results_found node pair a s m ts (Ok None) of two counted typed found = tt
+results_found node pair a s m ts (Err e) of two counted typed found = tt
 
 -- the value of one in all rows that are filled in
 pub fill_found : {E : Type 0} (node : Node) (pair : Pair) (t : LogicalType) (ts : List LogicalType) (k : ℕ) (d : Datum) (r : Result (Option Lanes) E) → function_of node.function.now ≡ fill_null → lanes_each node.below.now ≡ lanes_rows pair.lhs.now ∷ lanes_rows pair.rhs.now ∷ [] →

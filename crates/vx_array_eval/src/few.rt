@@ -5,11 +5,10 @@ ghost use Rattle.vx_value.specs.Views.{type_of, value_of};
 ghost use Rattle.vx_fn.specs.Faults.{differs};
 ghost use Rattle.vx_fn.specs.Functions as functions;
 ghost use Rattle.vx_fn.specs.Functions.{computes};
-ghost use Rattle.vx_floats.specs.declared.arithmetic.Arithmetic.TheVariants.{Sum};
 ghost use Rattle.vx_fn.specs.Values as values;
 ghost use Rattle.vx_fn.specs.Views.{function_of, is_strict, operation_of};
 ghost use Rattle.vx_array.specs.Rows.{lanes_each, lanes_rows};
-ghost use Rattle.vx_array_kernels.specs.Asked.{asked};
+ghost use Rattle.vx_array_kernels.specs.Asked.{arithmetic_of, asked};
 ghost use Rattle.vx_array_kernels.specs.Choices.{chosen_rows};
 ghost use Rattle.vx_array_kernels.specs.Found.{Finds, IsLong};
 ghost use Rattle.vx_array_eval.specs.Nodes.{FindsAnswer, types_of};
@@ -18,10 +17,10 @@ use crate::node::Node;
 use std::alloc::{AllocError, Global};
 use vx_array::Lanes;
 use vx_array_kernels::{
-    Connective, Pair, Range, add, add_floats, between, compare, comparison_of, connect, fill_null,
-    is_not_null, is_null, mask, not, zip,
+    Connective, Pair, Range, between, compare, comparison_of, computation_of, compute,
+    compute_floats, connect, fill_null, is_not_null, is_null, mask, not, zip,
 };
-use vx_array_loops::Comparison;
+use vx_array_loops::{Comparison, Computation};
 use vx_fn::{BetweenOptions, FillNull, Operator, ScalarFnRef, StrictComparison};
 use vx_types::{DType, Value};
 
@@ -106,25 +105,48 @@ fn binary(
     match operator {
         Operator::And => connect(alloc, Connective::And, pair),
         Operator::Or => connect(alloc, Connective::Or, pair),
-        Operator::Add => sums_of(alloc, node, pair),
         _ => match comparison_of(operator) {
             Some(comparison) => compare(alloc, comparison, pair),
-            None => Ok(None),
+            None => arithmetic(alloc, node, operator, pair),
         },
     }
 }
 
-// The sums of two columns, where there is a fast way and no fault.
-fn sums_of(alloc: Global, node: Node, pair: Pair) -> Result<Option<Lanes>, AllocError>
-    requires sum { function_of node.function.now ≡ functions.binary (computes Sum) }
+// The arithmetic of the operator on two columns, where there is a fast way and no fault.
+fn arithmetic(
+    alloc: Global,
+    node: Node,
+    operator: Operator,
+    pair: Pair,
+) -> Result<Option<Lanes>, AllocError>
+    requires operator { function_of node.function.now ≡ functions.binary (operation_of operator) }
+    requires two { lanes_each node.below.now ≡ lanes_rows pair.lhs.now ∷ lanes_rows pair.rhs.now ∷ [] }
+    requires count { pair.count ≡ node.count }
+    requires long { IsLong pair }
+    ensures { FindsAnswer node.entry result }
+{
+    match computation_of(operator) {
+        Some(computation) => computed_of(alloc, node, computation, pair),
+        None => Ok(None),
+    }
+}
+
+// What is computed of two columns, where there is a fast way and no fault.
+fn computed_of(
+    alloc: Global,
+    node: Node,
+    computation: Computation,
+    pair: Pair,
+) -> Result<Option<Lanes>, AllocError>
+    requires computes { function_of node.function.now ≡ functions.binary (computes (arithmetic_of computation)) }
     requires two { lanes_each node.below.now ≡ lanes_rows pair.lhs.now ∷ lanes_rows pair.rhs.now ∷ [] }
     requires count { pair.count ≡ node.count }
     requires long { IsLong pair }
     ensures { FindsAnswer node.entry result }
 {
     match first_type(node) {
-        Some(DType::Primitive(number, _)) => add(alloc, *number, pair),
-        Some(DType::Float(_, _)) => add_floats(alloc, pair),
+        Some(DType::Primitive(number, _)) => compute(alloc, computation, *number, pair),
+        Some(DType::Float(_, _)) => compute_floats(alloc, computation, pair),
         _ => Ok(None),
     }
 }

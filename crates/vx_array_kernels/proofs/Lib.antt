@@ -3,7 +3,7 @@ pub mod Bits
 pub mod NullRows
 pub mod Beside
 mod Chosen
-mod Added
+mod Computed
 mod Where
 mod Cases
 pub mod Picking
@@ -14,4 +14,4 @@ pub mod Along
 pub mod Quick
 mod AllValid
 mod Keyed
-mod Summed
+mod FloatsComputed

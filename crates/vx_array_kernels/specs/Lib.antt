@@ -2,11 +2,11 @@ pub mod Asked
 pub mod ByteRows
 pub mod Choices
 pub mod Connected
-pub mod FloatSums
+pub mod FloatResults
 pub mod Found
 pub mod Keys
 pub mod Likeness
 pub mod Ranges
 pub mod Reach
-pub mod Sums
+pub mod Results
 pub mod Truths

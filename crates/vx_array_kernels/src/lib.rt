@@ -1,15 +1,16 @@
 // Functions over columns in typed buffers.
 #![tactic(auto)]
 
+mod arithmetic;
 mod blend;
 mod byte_kind;
 mod byte_rows;
 mod choices;
 mod columns;
 mod comparison;
+mod float_arithmetic;
 mod float_comparison;
 mod float_rows;
-mod float_sums;
 mod keys;
 mod likeness;
 mod logic;
@@ -20,19 +21,18 @@ mod pair;
 mod picked;
 mod ranges;
 mod reach;
-mod sums;
 mod truths;
 mod validity;
 mod width;
 mod widths;
 
+pub use arithmetic::{computation_of, compute};
 pub use choices::{case_when, fill_null, zip};
 pub use comparison::{compare, comparison_of};
-pub use float_sums::add_floats;
+pub use float_arithmetic::compute_floats;
 pub use likeness::like;
 pub use logic::{Connective, connect, not};
 pub use masks::mask;
 pub use nulls::{is_not_null, is_null};
 pub use pair::Pair;
 pub use ranges::{Range, between};
-pub use sums::add;

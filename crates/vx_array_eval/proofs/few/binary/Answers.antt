@@ -1,5 +1,4 @@
 use Rattle.std.proofs.Common.{◌≡◌, ◌∙◌, ap, Ok, [], ◌∷◌}
-use Rattle.vx_fn.specs.Functions as functions
 use Rattle.vx_fn.specs.Values.{compared, kleene_and, kleene_or}
 use Rattle.vx_fn.specs.Views.{operation_of}
 use Rattle.vx_array.specs.Rows.{lanes_rows}
@@ -9,9 +8,6 @@ use Rattle.vx_array.proofs.Found.{found_map}
 use Rattle.vx_array_eval.proofs.Given.{and_given, at_node, compared_given, or_given}
 use Rattle.vx_array_eval.specs.Nodes.{answer_of, types_of}
 use Rattle.vx_array_eval.proofs.few.binary.Goals as goal
-
-pub sums_of-requires-clause-sum : goal.sums_of-requires-clause-sum
-sums_of-requires-clause-sum c = c.requires.operator ∙ ap (λ o. functions.binary (operation_of o)) c.in-Add.is
 
 pub returns-in-And : goal.returns-in-And
 returns-in-And c =
