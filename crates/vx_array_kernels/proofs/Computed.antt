@@ -70,7 +70,7 @@ computed_as fits num c i j x y z failed left right is = subst (λ p. IsComputed 
 -- rows that are written
 pub written : {A : Type 0} (fits : ℤ → Bool) (num : A → ℤ) (c : Computation) (v : Validity) (f g : ℕ → ℤ) (n : ℕ) (xs : List A) → ((k : ℕ) → k < n → is_valid v k ≡ true → fails fits c (f k) (g k) ≡ false) →
     ((k : ℕ) (x : A) → k < n → x ≡ get_or xs k x → (failed : Bool) × IsComputed fits num c (f k) (g k) x failed) → AreComputed fits num c v f g n xs
-written fits num c v f g n xs held each = (held, λ k x lt is quiet. let (failed, told, result) = each k x lt is in result (told ∙ quiet))
+written fits num c v f g n xs held each = (held, λ k x lt is quiet. let told = (each k x lt is).1 in told.1 (told.0 ∙ quiet))
 
 -- nothing was found
 pub none_found : {P : Type 0} (Q : ℕ → Type 0) (r : Option ℕ) → is_some r ≡ false → MatchOption r P Q → P

@@ -1,5 +1,5 @@
 // Arithmetic on whole numbers in buffers, with each other and with one number.
-ghost use Rattle.std.specs.Prelude.{◌≡◌, ◌<◌, ◌≤◌, ℕ, ℤ, IfSome, false, true, get_or, length, map, pos};
+ghost use Rattle.std.specs.Prelude.{◌≡◌, ◌<◌, ◌≤◌, ◌&&◌, ℕ, ℤ, IfSome, false, true, get_or, length, map, pos};
 ghost use Rattle.vx_value.specs.Types as types;
 ghost use Rattle.vx_fn.specs.Functions.{computes};
 ghost use Rattle.vx_fn.specs.Views.{operation_of};
@@ -200,13 +200,13 @@ fn of_number<T: Width>(
     ensures { FindsComputed T.fits computation count validity.now (λ _. number.now) (λ k. get_or (numbers_in numbers.now) k (pos 0)) result }
 {
     match (T::narrowed(*number), T::part(numbers)) {
-        (Some(first), Some(part)) => before(alloc, computation, count, validity, first, part),
+        (Some(first), Some(part)) => of_one(alloc, computation, count, validity, first, part),
         _ => Ok(None),
     }
 }
 
 // The same of numbers of the type's width.
-fn before<T: Width>(
+fn of_one<T: Width>(
     alloc: Global,
     computation: Computation,
     count: usize,
@@ -334,11 +334,8 @@ fn fails_at<T: Number, L: Fn(usize) -> T, R: Fn(usize) -> T>(
 ) -> bool
     requires lhs { L.pre lhs.now i }
     requires rhs { R.pre rhs.now i }
-    ensures { is_valid validity.now i ≡ true → (x : T) × (y : T) × L.post lhs.now i x × R.post rhs.now i y × (result ≡ fails T.fits computation (T.number x) (T.number y)) }
+    ensures { (x : T) × (y : T) × L.post lhs.now i x × R.post rhs.now i y × (result ≡ (is_valid validity.now i && fails T.fits computation (T.number x) (T.number y))) }
 {
-    if !validity.is_valid(i) {
-        return false;
-    }
     let (_, failed) = computed_at(computation, lhs, i, rhs);
-    failed
+    validity.is_valid(i) && failed
 }
