@@ -24,8 +24,8 @@ use Rattle.vx_array.specs.Rows.{lanes_rows}
 use Rattle.vx_array.proofs.Held.{rows-Numbers}
 use Rattle.vx_array.proofs.Masked.{get_or-shown, length-shown}
 use Rattle.vx_array_kernels.specs.Asked.{arithmetic_of}
-use Rattle.vx_array_kernels.specs.Found.{IsLong, pair_rows}
-use Rattle.vx_array_kernels.specs.Results.{AreComputed, FindsComputed, FindsResults, IsComputed, NoneFaults, valid_rows}
+use Rattle.vx_array_kernels.specs.Found.{IsLong}
+use Rattle.vx_array_kernels.specs.Results.{AreComputed, FindsComputed, FindsResults, IsComputed, valid_rows}
 use Rattle.vx_array_kernels.specs.declared.pair.Pair.{Pair}
 use Rattle.vx_array_kernels.specs.Truths.{both_rows}
 use Rattle.vx_array_kernels.proofs.Beside.{all_counted, numbers_held, numbers_there}

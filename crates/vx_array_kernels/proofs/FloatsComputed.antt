@@ -2,7 +2,6 @@
 use Rattle.std.proofs.Common.{◌≡◌, ◌≢◌, ℕ, ◌<◌, ◌≤◌, List, [], ◌∷◌, map, length, get_or, refl, sym, ap, subst, ◌∙◌, arith, Bool, true, false, Some, None}
 use Rattle.std.specs.Prelude.{Option, if◌then◌else◌, ◌&&◌, ◌||◌, from_bits, to_bits, option_map}
 use Rattle.std.specs.Float.{binary32, binary64}
-use Rattle.std.specs.Float.Ieee.{add, sub, mul, div}
 use lib.Ieee.Bits.{of_bits-to_bits, of_bits-fits}
 use lib.Ieee.Fits.{add-fits, sub-fits, mul-fits, div-fits}
 use Rattle.std.proofs.Math.ListN.{replicate}

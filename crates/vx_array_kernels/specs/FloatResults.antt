@@ -1,7 +1,6 @@
 -- Arithmetic on floating-point numbers, by their bits.
-use Rattle.std.specs.Prelude.{◌≡◌, ℕ, get_or, from_bits, to_bits, Option}
+use Rattle.std.specs.Prelude.{◌≡◌, ℕ, from_bits, to_bits}
 use Rattle.std.specs.Float.{Format, binary32, binary64}
-use Rattle.std.specs.Float as ieee
 use Rattle.std.specs.Option.{option_map, unwrap_or}
 use Rattle.vx_dtype.specs.declared.float_type.FloatType.{FloatType}
 use Rattle.vx_dtype.specs.declared.float_type.FloatType.TheVariants.{F32, F64}

@@ -1,4 +1,4 @@
-use Rattle.std.proofs.Common.{◌≡◌, ◌∙◌, ◌<◌, ℕ, ap, sym, true, false, length, get_or, arith, rules}
+use Rattle.std.proofs.Common.{◌≡◌, ◌∙◌, ◌<◌, ℕ, ap, sym, false, length, get_or, arith, rules}
 use Rattle.std.specs.Prelude.{◌&&◌}
 use Rattle.vx_array.specs.Shown.{is_valid}
 use Rattle.vx_array_loops.specs.Computations.{fails}

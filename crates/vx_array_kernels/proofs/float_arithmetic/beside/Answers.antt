@@ -1,4 +1,4 @@
-use Rattle.std.proofs.Common.{◌∙◌, ℕ, get_or, refl, sym, rules}
+use Rattle.std.proofs.Common.{◌∙◌, ℕ, get_or, refl, rules}
 use Rattle.vx_array_kernels.proofs.float_arithmetic.beside.Goals as goal
 
 pub returns-in_ok-new-in-F32-F32-clause-results : goal.returns-in_ok-new-in-F32-F32-clause-results
