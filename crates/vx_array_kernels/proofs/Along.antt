@@ -156,6 +156,21 @@ ascii_before bytes beyond w from len are room few fits first read = λ i. at i
     at : (i : ℕ) → slice_index (take len (drop from bytes)) i < 128
     at i = ⊎_elim (λ lt. omega (arith, small i lt, here bytes from len i lt)) (λ ge. omega (arith, off i ge)) (cases_lt i len)
 
+-- bytes of which none is beyond ASCII
+pub ascii_all : (bytes : List ℕ) (beyond : List Bool) (from len : ℕ) → beyond ≡ map (λ b. not (nat_lt b 128)) bytes → from + len ≤ length bytes → ((k : ℕ) → get_or beyond k false ≡ false) → IsAscii (take len (drop from bytes))
+ascii_all bytes beyond from len are room none = λ i. at i
+  where
+    small : (i : ℕ) → i < len → get_or bytes (from + i) 0 < 128
+    small i lt =
+        let told : false ≡ not (nat_lt (get_or bytes (from + i) 0) 128) = sym (none (from + i)) ∙ ap (λ l. get_or l (from + i) false) are ∙ get_or-map (λ b. not (nat_lt b 128)) bytes (from + i) 0 false (omega arith) in
+        grind (arith, nat_tests, told)
+
+    off : (i : ℕ) → len ≤ i → get_or (take len (drop from bytes)) i 0 ≡ 0
+    off i ge = get_or-eq_default (take len (drop from bytes)) 0 (omega (arith, length-row false bytes from len room))
+
+    at : (i : ℕ) → slice_index (take len (drop from bytes)) i < 128
+    at i = ⊎_elim (λ lt. omega (arith, small i lt, here bytes from len i lt)) (λ ge. omega (arith, off i ge)) (cases_lt i len)
+
 pub one_more_step : (ci : Bool) (bytes : List ℕ) (ps : List Part) (ss : List Step) (p : Part) (s : Step) → AreSteps ci bytes ps ss → IsStep ci bytes p s → AreSteps ci bytes (ps ++ (p ∷ [])) (ss ++ (s ∷ []))
 one_more_step ci bytes [] [] p s are is = (is, tt)
 one_more_step ci bytes [] (t ∷ ss) p s are is = absurd are

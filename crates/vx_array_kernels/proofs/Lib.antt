@@ -12,6 +12,7 @@ pub mod Alive
 pub mod Upward
 pub mod Along
 pub mod Quick
+mod Plain
 mod AllValid
 mod Keyed
 mod FloatsComputed

@@ -1,5 +1,5 @@
 -- Patterns looked up in the bytes of a buffer.
-use Rattle.std.specs.Prelude.{◌≡◌, ◌<◌, ◌==◌, ℕ, List, [], ◌∷◌, Bool, false, length, get_or, not, nat_lt, map, take, drop, ◌+◌, ◌&&◌, ◌||◌, if◌then◌else◌}
+use Rattle.std.specs.Prelude.{◌≡◌, ◌<◌, ◌≤◌, ◌-◌, ◌==◌, ℕ, List, [], ◌∷◌, Bool, false, length, get_or, not, nat_lt, map, take, drop, ◌+◌, ◌&&◌, ◌||◌, if◌then◌else◌}
 use Rattle.std.specs.Char.{to_ascii_lowercase}
 use Rattle.vx_fn.specs.Values.{Part, any_text, any_one, just, folded, matches}
 use Rattle.vx_array_kernels.specs.declared.reach.Step.{Step}
@@ -39,3 +39,11 @@ AreSteps ignore_case bytes _ _ = ⊥
 -- the steps are those of the parts along the bytes
 abbrev pub Follows : Bool → List ℕ → List Part → Steps → Type 0
 Follows ignore_case bytes ps s = AreSteps ignore_case bytes ps s.steps.items × (s.beyond ≡ map (λ b. not (nat_lt b 128)) bytes)
+
+-- all bytes that the steps go along are ASCII
+abbrev pub NoneBeyond : Steps → Type 0
+NoneBeyond s = (k : ℕ) → get_or s.beyond k false ≡ false
+
+-- the bytes from one place up to another are fewer than 64 of so many
+abbrev pub IsShort : ℕ → ℕ → ℕ → Type 0
+IsShort from to count = (from ≤ to) × (to - from < 64) × (to ≤ count)

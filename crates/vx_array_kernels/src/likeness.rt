@@ -1,20 +1,22 @@
 // LIKE over texts in a buffer.
-ghost use Rattle.std.specs.Prelude.{◌≡◌, ◌<◌, ◌≤◌, Bool, IfErr, IfOk, IfSome, false, get_or, is_some, length, map, not, option_map, unwrap_or};
+ghost use Rattle.std.specs.Prelude.{◌≡◌, ◌<◌, ◌≤◌, ◌+◌, Bool, IfErr, IfOk, IfSome, false, true, get_or, is_some, length, map, not, option_map, unwrap_or};
 ghost use Rattle.vx_dtype.specs.declared.error.VortexError.TheVariants.{OutOfMemory};
 ghost use Rattle.vx_value.specs.Types.{bool, is_null_datum, null, utf8};
 ghost use Rattle.vx_fn.specs.Values.{flipped, liked};
 ghost use Rattle.vx_eval_like.specs.Patterns.{Compiled, compiled};
 ghost use Rattle.vx_array.specs.Kinds.{spans_in, text_row};
 ghost use Rattle.vx_array.specs.Rows.{lanes_rows};
+ghost use Rattle.vx_array.specs.Shown.{is_valid};
 ghost use Rattle.vx_array_kernels.specs.Found.{Finds, IsLong, pair_rows};
-ghost use Rattle.vx_array_kernels.specs.Likeness.{accepted, text_datum, text_rows, truth_datum, Suits};
+ghost use Rattle.vx_array_kernels.specs.Likeness.{accepted, text_datum, text_rows, truth_datum, ArePlain, Suits};
+ghost use Rattle.vx_array_kernels.specs.Reach.{IsShort, NoneBeyond};
 ghost use Rattle.vx_array_kernels.specs.Truths.{AreValues};
 
 use crate::pair::Pair;
 use crate::reach::Steps;
 use std::alloc::{AllocError, Global};
 use vx_array::{BitPart, Lanes, Spans, Validity};
-use vx_array_loops::{Bits, tabulated};
+use vx_array_loops::{Bits, first_where, tabulated};
 use vx_eval_like::Pattern;
 use vx_fn::LikeOptions;
 use vx_types::{Value, VortexResult};
@@ -101,6 +103,72 @@ fn quick_of<'a>(
 
 // Whether the pattern accepts each text, turned round where it is negated.
 fn matched(
+    alloc: Global,
+    negated: bool,
+    pattern: &Pattern,
+    quick: &Option<Quick>,
+    texts: Texts,
+) -> Result<Lanes, AllocError>
+    requires long { length (text_rows texts) ≡ texts.count }
+    requires there { texts.count ≤ length (spans_in texts.spans.now) }
+    requires suits { IfSome quick.now (λ q. Suits pattern.now texts q) }
+    ensures { IfOk result (λ out. lanes_rows out ≡ map (accepted negated pattern.now) (text_rows texts.entry)) }
+{
+    if let Some(quick) = quick {
+        if are_plain(quick, texts.count) {
+            return plainly(alloc, negated, quick, texts);
+        }
+    }
+    each_matched(alloc, negated, pattern, quick, texts)
+}
+
+// The same where all bytes are ASCII and each text is short: its truth is a bit, whether it is valid or not.
+fn plainly(alloc: Global, negated: bool, quick: &Quick, texts: Texts) -> Result<Lanes, AllocError>
+    requires long { length (text_rows texts) ≡ texts.count }
+    requires there { texts.count ≤ length (spans_in texts.spans.now) }
+    requires plain { ArePlain texts.count quick.now }
+    ensures { (p : Compiled) → Suits p texts.entry quick.now → IfOk result (λ out. lanes_rows out ≡ map (accepted negated p) (text_rows texts.entry)) }
+{
+    let bits = Bits::tabulated(alloc, texts.count, |k| plain_at(negated, quick, k))?;
+    Ok(Lanes::Bools(BitPart::new(alloc, bits)?, texts.validity.clone()?))
+}
+
+// Whether the pattern of the steps accepts the text of that row, turned round where it is negated.
+#[inline(always)]
+fn plain_at(negated: bool, quick: &Quick, k: usize) -> bool
+    requires there { k + 1 < length quick.now.offsets.now }
+    requires short { IsShort (get_or quick.now.offsets.now k 0) (get_or quick.now.offsets.now (k + 1) 0) (length quick.now.steps.beyond) }
+    ensures { (p : Compiled) (t : Texts) → Suits p t quick.now → NoneBeyond quick.now.steps → k < length (spans_in t.spans.now) → is_valid t.validity.now k ≡ true → bool result ≡ accepted negated p (get_or (text_rows t) k null) }
+{
+    let accepts = quick
+        .steps
+        .accepts_plain(quick.offsets[k], quick.offsets[k + 1]);
+    turned_round(negated, accepts)
+}
+
+// Whether all bytes are ASCII, and the first so many texts are short.
+fn are_plain(quick: &Quick, count: usize) -> bool
+    ensures { result ≡ true → ArePlain count quick.now }
+{
+    if !quick.steps.is_ascii() || quick.offsets.len() <= count {
+        return false;
+    }
+    let (offsets, bytes) = (quick.offsets, quick.steps.len());
+    first_where(count, |k| is_long(offsets, k, bytes)).is_none()
+}
+
+// Whether the text of that row isn't one of fewer than 64 of so many bytes.
+#[inline(always)]
+fn is_long(offsets: &[usize], k: usize, bytes: usize) -> bool
+    requires { k + 1 < length offsets.now }
+    ensures { result ≡ false → IsShort (get_or offsets.now k 0) (get_or offsets.now (k + 1) 0) bytes }
+{
+    let (from, to) = (offsets[k], offsets[k + 1]);
+    to < from || to - from >= 64 || to > bytes
+}
+
+// The same row by row, each by the steps where it is short and all ASCII, and else by the pattern.
+fn each_matched(
     alloc: Global,
     negated: bool,
     pattern: &Pattern,

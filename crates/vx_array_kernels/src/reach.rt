@@ -1,12 +1,12 @@
 // Patterns of LIKE along short texts of ASCII, for all ways to match them at once.
-ghost use Rattle.std.specs.Prelude.{◌≡◌, ◌<◌, ◌≤◌, ◌-◌, ◌+◌, ◌==◌, ◌∷◌, ◌||◌, ℕ, List, Bool, IfOk, IfSome, length, take, drop, map, get_or, false, not, nat_lt};
+ghost use Rattle.std.specs.Prelude.{◌≡◌, ◌<◌, ◌≤◌, ◌-◌, ◌+◌, ◌==◌, ◌∷◌, ◌||◌, ℕ, List, Bool, IfOk, IfSome, length, take, drop, map, get_or, false, true, not, nat_lt};
 ghost use Rattle.std.specs.Char.{to_ascii_lowercase};
 ghost use Rattle.std.specs.Str.{IsAscii};
 ghost use Rattle.vx_fn.specs.Values as values;
 ghost use Rattle.vx_fn.specs.Values.{matches};
 ghost use Rattle.vx_array_loops.specs.WordBits.{bit_of};
 ghost use Rattle.vx_eval_like.specs.Patterns.{part_view, spelled_by};
-ghost use Rattle.vx_array_kernels.specs.Reach.{alive, row, ArePlaces, AreSteps, Follows, IsStep};
+ghost use Rattle.vx_array_kernels.specs.Reach.{alive, row, ArePlaces, AreSteps, Follows, IsStep, NoneBeyond};
 
 use std::alloc::{AllocError, Global};
 use vx_array_loops::Bits;
@@ -53,6 +53,31 @@ impl Steps {
         }
         let beyond = Bits::tabulated(alloc, bytes.len(), |k| is_beyond(bytes, k))?;
         Ok(Some(Steps { steps, beyond }))
+    }
+
+    /// How many bytes there are.
+    pub fn len(&self) -> usize
+        ensures { result ≡ length self.now.beyond }
+    {
+        self.beyond.len()
+    }
+
+    /// Whether all bytes are ASCII. Reads each word of bits once.
+    pub fn is_ascii(&self) -> bool
+        ensures { result ≡ true → NoneBeyond self.now }
+    {
+        self.beyond.count_ones() == 0
+    }
+
+    /// Whether the pattern spells the bytes from one place up to another. Asks fewer than 64, and means
+    /// something where all bytes are there and ASCII.
+    #[inline(always)]
+    pub fn accepts_plain(&self, from: usize, to: usize) -> bool
+        requires order { from ≤ to }
+        requires few { to - from < 64 }
+        ensures { (ci : Bool) (bytes : List ℕ) (ps : List values.Part) → Follows ci bytes ps self.now → NoneBeyond self.now → to ≤ length self.now.beyond → IsAscii (take (to - from) (drop from bytes)) × (result ≡ matches ps (row ci bytes from (to - from))) }
+    {
+        reaches(self.steps.as_slice(), from, to - from)
     }
 
     /// Whether the pattern spells the bytes from one place up to another, if these are fewer than 64, and

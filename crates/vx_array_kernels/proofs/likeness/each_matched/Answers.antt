@@ -4,7 +4,7 @@ use Rattle.vx_array.specs.Rows.{lanes_rows}
 use Rattle.vx_array_kernels.specs.Likeness.{accepted, text_rows, truth_datum}
 use Rattle.vx_array_kernels.proofs.Chosen.{ok_all}
 use Rattle.vx_array_kernels.proofs.Liked.{rows_told}
-use Rattle.vx_array_kernels.proofs.likeness.matched.Goals as goal
+use Rattle.vx_array_kernels.proofs.likeness.each_matched.Goals as goal
 
 pub returns : goal.returns
 returns c =
