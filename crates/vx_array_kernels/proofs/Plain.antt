@@ -1,6 +1,7 @@
 -- Texts that are short and all ASCII, each told of by a bit.
-use Rattle.std.proofs.Common.{◌≡◌, ℕ, zero, suc, ◌<◌, List, [], ◌∷◌, map, length, get_or, refl, sym, ap, ◌∙◌, arith, Bool, true, false, eqb, Option, Some, None}
+use Rattle.std.proofs.Common.{◌≡◌, ℕ, zero, suc, ◌+◌, ◌<◌, List, [], ◌∷◌, map, length, get_or, refl, sym, ap, ◌∙◌, arith, Bool, true, false, eqb, Option, Some, None}
 use Rattle.std.specs.Prelude.{cond, if◌then◌else◌, is_none, MatchOption}
+use Rattle.std.proofs.lemmas.Bool.{eqb-true}
 use Rattle.std.proofs.lemmas.List.{length-map, get_or-map, ext_get_or}
 use Rattle.std.proofs.lemmas.List.Sums.{sum_by-cons}
 use Rattle.vx_value.specs.Types.{Datum, null, bool}
@@ -26,8 +27,7 @@ none_true (false ∷ bs) none (suc k) =
     none_true bs (omega (arith, none, more)) k
 
 pub none_counted : (bs : List Bool) (n : ℕ) → n ≡ count_true bs → eqb n 0 ≡ true → (k : ℕ) → get_or bs k false ≡ false
-none_counted bs zero is none = none_true bs (sym is)
-none_counted bs (suc n) is none = cc
+none_counted bs n is none = none_true bs (sym is ∙ eqb-true n 0 none)
 
 -- nothing was found
 pub none_there : {P : Type 0} (Q : ℕ → Type 0) (r : Option ℕ) → is_none r ≡ true → MatchOption r P Q → P

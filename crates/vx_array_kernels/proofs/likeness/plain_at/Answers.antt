@@ -5,5 +5,5 @@ use Rattle.vx_array_kernels.proofs.likeness.plain_at.Goals as goal
 
 pub returns : goal.returns
 returns c = λ p t suits none lt valid.
-    let told = λ ci bytes ps follows. c.accepts_plain.ensures ci bytes ps follows none c.requires.short.2 in
-    ap bool c.turned_round.ensures ∙ quick_told c.args.negated p t c.args.quick.now c.args.k _ _ c.accepts_plain.result suits lt valid refl refl (λ ci bytes ps follows. (told ci bytes ps follows).0) (λ ci bytes ps follows. (told ci bytes ps follows).1)
+    ap bool c.turned_round.ensures
+    ∙ quick_told c.args.negated p t c.args.quick.now c.args.k _ _ c.accepts_plain-accepts.result suits lt valid refl refl (λ ci bytes ps follows. (c.accepts_plain-accepts.ensures ci bytes ps follows none c.requires.short.2).0) (λ ci bytes ps follows. (c.accepts_plain-accepts.ensures ci bytes ps follows none c.requires.short.2).1)

@@ -5,8 +5,8 @@ use Rattle.vx_array.proofs.Held.{rows-Bools}
 use Rattle.vx_array_kernels.proofs.Plain.{plain_rows}
 use Rattle.vx_array_kernels.proofs.likeness.plainly.Goals as goal
 
-pub returns-in_ok-clone : goal.returns-in_ok-clone
-returns-in_ok-clone c = λ p suits.
+pub returns : goal.returns
+returns c = λ p suits.
     let bits = c.in_ok-new.field-0 in
     let v = c.in_ok-clone.field-0 in
     plain_rows c.args.negated p c.args.texts c.args.texts.count c.in_ok-bits.bits bits v _ c.requires.long c.in_ok-bits.ensures.long
