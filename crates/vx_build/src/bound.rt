@@ -17,7 +17,7 @@ pub use crate::operators::{
     and, between, binary, checked_add, checked_div, checked_mul, checked_rem, checked_sub, eq, gt,
     gt_eq, lt, lt_eq, not, not_eq, or,
 };
-pub use crate::texts::{ilike, like, not_ilike, not_like};
+pub use crate::texts::{byte_length, ilike, like, not_ilike, not_like, starts_with};
 pub use crate::values::cast;
 pub use collects::{and_collect, or_collect};
 use std::alloc::Global;

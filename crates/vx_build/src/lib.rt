@@ -24,5 +24,5 @@ pub use operators::{
     and, between, binary, checked_add, checked_div, checked_mul, checked_rem, checked_sub, eq, gt,
     gt_eq, lt, lt_eq, not, not_eq, or,
 };
-pub use texts::{ilike, like, not_ilike, not_like};
+pub use texts::{byte_length, ilike, like, not_ilike, not_like, starts_with};
 pub use values::{cast, lit};

@@ -1,6 +1,7 @@
 -- A well-typed tree gives a value of its type at each row of a batch on which it doesn't fault.
 use Rattle.std.proofs.Common.{IsTrue, ◌&&◌, ◌≡◌, ℕ, zero, suc, inl, inr, ◌+◌, ◌*◌, List, [], ◌∷◌, length, refl, sym, subst, Bool, true, false, ◌||◌, arith, ◌⊎◌}
-use Rattle.std.specs.Prelude.{Some, None, not, if◌then◌else◌}
+use Rattle.std.specs.Prelude.{Some, None, not, if◌then◌else◌, nat_lt, min, ◌^◌, ◌-◌}
+use Rattle.std.proofs.lemmas.Bool.Decides.{nat_tests}
 use Rattle.std.proofs.lemmas.Bool.{eqb-true, not-false, or_left, or_right, or_parts}
 use Rattle.vx_value.proofs.Fitting.{fits-not_null, fits-wider, fits-nullable, join-fits-left, join-fits-right, Into, into_none, into_more, union_all-into, field_value-fits, project-fits, pack-fits}
 use Rattle.vx_dtype.proofs.Known.{first_unknown-filter, first_unknown-own}
@@ -17,11 +18,12 @@ use Rattle.vx_dtype.specs.Lists.{forall2_nil, forall2_cons}
 use Rattle.vx_value.specs.Joins.{same_base, join}
 use Rattle.vx_value.specs.Fields.{field_type, field_value, project, first_unknown, field_names}
 use Rattle.vx_dtype.specs.declared.dtype.PType.{PType}
+use Rattle.vx_dtype.specs.declared.dtype.PType.TheVariants.{I64}
 use Rattle.vx_fn.specs.Functions.{Function, get_item, select, fill_null, binary, cast, computes, is_remainder, Comparison, selection_names, included, branches, HasFittingLiteral}
 use Rattle.vx_fn.specs.declared.options.FieldSelection.{FieldSelection}
 use Rattle.vx_fn.specs.declared.options.FieldSelection.TheVariants.{Include, Exclude}
-use Rattle.vx_fn.specs.Rows.{FnType, of_case_else, of_case, of_get_item, of_literal, of_pack, of_select, of_fill_null, of_zip, of_comparison, of_and, of_or, of_arithmetic, of_float_arithmetic, of_decimal_arithmetic, of_not, of_between, of_like, of_is_null, of_is_not_null, of_mask, of_cast}
-use Rattle.vx_fn.specs.Values.{is_true, kleene_and, kleene_or, kleene_not, compared, agrees, order, bound_comparison, computed, liked, first_true, fn_value}
+use Rattle.vx_fn.specs.Rows.{FnType, of_case_else, of_case, of_get_item, of_literal, of_pack, of_select, of_fill_null, of_zip, of_comparison, of_and, of_or, of_arithmetic, of_float_arithmetic, of_decimal_arithmetic, of_not, of_between, of_like, of_is_null, of_is_not_null, of_mask, of_cast, of_starts_with, of_byte_length}
+use Rattle.vx_fn.specs.Values.{is_true, kleene_and, kleene_or, kleene_not, compared, agrees, order, bound_comparison, computed, liked, begun, counted_bytes, first_true, fn_value}
 use Rattle.vx_fn.specs.Faults.{has_fault, misfits, is_fillable, fill_of}
 
 -- the row doesn't make the node fault
@@ -80,6 +82,21 @@ like-fits neg ci null w n m e h = or_left n m e
 like-fits neg ci (utf8 t) null n m e h = or_right n m h
 like-fits neg ci (utf8 t) (utf8 p) n m e h = refl
 like-fits neg ci _ _ n m e h = cc
+
+begun-fits : (v w : Datum) (n m : Bool) → Fits v (ty (atomic text) n) → Fits w (ty (atomic text) m) → Fits (begun v w) (ty (atomic truth) (n || m))
+begun-fits null w n m e h = or_left n m e
+begun-fits (utf8 t) null n m e h = or_right n m h
+begun-fits (utf8 t) (utf8 p) n m e h = refl
+begun-fits _ _ n m e h = cc
+
+-- a number that is cut off at the greatest of its type
+cut_off : (k : ℕ) → nat_lt (min k (2 ^ 63 - 1)) (2 ^ 63) ≡ true
+cut_off k = grind (arith, nat_tests)
+
+counted-fits : (v : Datum) (n : Bool) → Fits v (ty (atomic text) n) → Fits (counted_bytes v) (ty (atomic (number I64)) n)
+counted-fits null n e = e
+counted-fits (utf8 t) n e = cut_off (length t)
+counted-fits _ n e = cc
 
 -- ---- arithmetic
 
@@ -222,3 +239,5 @@ fn_value-fits of_is_null lit safe (forall2_cons e forall2_nil) = refl
 fn_value-fits of_is_not_null lit safe (forall2_cons e forall2_nil) = refl
 fn_value-fits (of_mask {t = t}) lit safe (forall2_cons {x = v} e (forall2_cons {x = m} h forall2_nil)) = mask-fits t (is_true m) v e
 fn_value-fits (of_cast {u = u} s) lit safe (forall2_cons {x = v} e forall2_nil) = cast-fits u v safe
+fn_value-fits (of_starts_with {n = n} {m = m}) lit safe (forall2_cons {x = v} e (forall2_cons {x = w} h forall2_nil)) = begun-fits v w n m e h
+fn_value-fits (of_byte_length {n = n}) lit safe (forall2_cons {x = v} e forall2_nil) = counted-fits v n e

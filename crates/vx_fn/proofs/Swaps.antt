@@ -1,5 +1,5 @@
 -- Operations over exchanged operands.
-use Rattle.std.proofs.Common.{◌≡◌, ℤ, true, false, ◌||◌, ◌&&◌, if◌then◌else◌, Some, None, IfSome, refl, ap, ◌∙◌}
+use Rattle.std.proofs.Common.{◌≡◌, ℤ, true, false, ◌||◌, ◌&&◌, if◌then◌else◌, Some, None, refl, ap, ◌∙◌}
 use Rattle.std.specs.declared.cmp.Ordering.{Ordering}
 use Rattle.std.specs.declared.cmp.Ordering.TheVariants.{Less, Equal, Greater}
 use Rattle.std.specs.Cmp.{bool_cmp_total}

@@ -11,7 +11,7 @@ use Rattle.vx_value.specs.Equality.{equal_type, equal_datum}
 use Rattle.vx_value.specs.Hashes.{type_fed, datum_fed}
 use Rattle.vx_fn.specs.declared.options.FieldSelection.{FieldSelection}
 use Rattle.vx_fn.specs.declared.options.FieldSelection.TheVariants.{Include, Exclude}
-use Rattle.vx_fn.specs.Functions.{equal, not_equal, greater, greater_or_equal, less, less_or_equal, Operation, compares, and_also, or_else, computes, Function, case_when, get_item, literal, pack, select, fill_null, zip, binary, logical_not, between, like, is_null, is_not_null, mask, cast}
+use Rattle.vx_fn.specs.Functions.{equal, not_equal, greater, greater_or_equal, less, less_or_equal, Operation, compares, and_also, or_else, computes, Function, case_when, get_item, literal, pack, select, fill_null, zip, binary, logical_not, between, like, is_null, is_not_null, mask, cast, starts_with, byte_length}
 
 -- the operation's place among the thirteen
 abbrev pub operation_index : Operation → ℕ
@@ -56,6 +56,8 @@ equal_function is_null is_null = true
 equal_function is_not_null is_not_null = true
 equal_function mask mask = true
 equal_function (cast t) (cast u) = equal_type t u
+equal_function starts_with starts_with = true
+equal_function byte_length byte_length = true
 equal_function _ _ = false
 
 -- what a selection feeds to a hasher
@@ -63,7 +65,7 @@ abbrev pub selection_fed : FieldSelection → HashWrites
 selection_fed (Include names) = fed.u8 0 ++ fed.slice fed.str names
 selection_fed (Exclude names) = fed.u8 1 ++ fed.slice fed.str names
 
--- the function's place among the fifteen
+-- the function's place among them all
 abbrev pub function_index : Function → ℕ
 function_index (case_when k e) = 0
 function_index (get_item a) = 1
@@ -80,6 +82,8 @@ function_index is_null = 11
 function_index is_not_null = 12
 function_index mask = 13
 function_index (cast t) = 14
+function_index starts_with = 15
+function_index byte_length = 16
 
 -- what a function's options feed to a hasher
 abbrev pub options_fed : Function → HashWrites

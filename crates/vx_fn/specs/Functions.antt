@@ -1,7 +1,8 @@
--- The fifteen functions, and the type that each gives over its children's types.
+-- The functions, and the type that each gives over its children's types.
 use Rattle.std.specs.Prelude.{ℕ, ◌+◌, ◌*◌, Bool, true, false, ◌&&◌, ◌||◌, ◌==◌, not, List, [], ◌∷◌, length, Option, Some, None, Result, Ok, Err, if◌then◌else◌, ok_or, option_map, codes}
 use Rattle.std.specs.List.{list_all}
 use Rattle.std.specs.Result.{result_map_both}
+use Rattle.vx_dtype.specs.declared.dtype.PType.TheVariants.{I64}
 use Rattle.vx_dtype.specs.declared.error.VortexError.{VortexError}
 use Rattle.vx_dtype.specs.declared.error.VortexError.TheVariants.{ArityMismatch, NotAStruct, NoSuchField, BaseTypesDiffer, NotBool, NotComparable, NotNumeric, NotText, NoPairs}
 use Rattle.vx_floats.specs.declared.arithmetic.Arithmetic.{Arithmetic}
@@ -48,6 +49,8 @@ pub data Function : Type 0 where
   is_not_null : Function
   mask : Function
   cast : LogicalType → Function
+  starts_with : Function
+  byte_length : Function
 
 -- the comparison for exchanged operands
 abbrev pub mirrored : Comparison → Comparison
@@ -197,6 +200,7 @@ arity_of fill_null = 2
 arity_of (binary op) = 2
 arity_of (like negated case_insensitive) = 2
 arity_of mask = 2
+arity_of starts_with = 2
 arity_of zip = 3
 arity_of (between ls us) = 3
 arity_of _ = 1
@@ -264,9 +268,13 @@ between_type t l u =
     needs (is_atomic t && is_atomic l && is_atomic u) NotComparable
     (needs (same_base t l && same_base t u) BaseTypesDiffer (Ok (truth_type (is_nullable t || is_nullable l || is_nullable u))))
 
--- the row of a match of a pattern
+-- the row of a match of a pattern, and of a test of a beginning
 abbrev pub like_type : LogicalType → LogicalType → Typing
 like_type t p = needs (is_text t && is_text p) NotText (Ok (truth_type (is_nullable t || is_nullable p)))
+
+-- the row of a length
+abbrev pub length_type : LogicalType → Typing
+length_type t = needs (is_text t) NotText (Ok (ty (atomic (number I64)) (is_nullable t)))
 
 -- the row of a mask
 abbrev pub mask_type : LogicalType → LogicalType → Typing
@@ -297,6 +305,8 @@ fn_type is_null = of_one (λ t. Ok (truth_type false))
 fn_type is_not_null = of_one (λ t. Ok (truth_type false))
 fn_type mask = of_two mask_type
 fn_type (cast u) = of_one (cast_type u)
+fn_type starts_with = of_two like_type
+fn_type byte_length = of_one length_type
 
 -- the name of the function
 abbrev pub id_of : Function → List ℕ
@@ -315,3 +325,5 @@ id_of is_null = codes "vortex.is_null"
 id_of is_not_null = codes "vortex.is_not_null"
 id_of mask = codes "vortex.mask"
 id_of (cast t) = codes "vortex.cast"
+id_of starts_with = codes "vortex.starts_with"
+id_of byte_length = codes "vortex.byte_length"

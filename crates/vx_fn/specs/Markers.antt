@@ -12,8 +12,8 @@ use Rattle.vx_fn.specs.declared.options.Operator.{Operator}
 use Rattle.vx_fn.specs.declared.options.BetweenOptions.{BetweenOptions}
 use Rattle.vx_fn.specs.declared.options.LikeOptions.{LikeOptions}
 use Rattle.vx_fn.specs.declared.function.ScalarFnRef.{ScalarFnRef}
-use Rattle.vx_fn.specs.declared.function.ScalarFnRef.TheVariants.{CaseWhen, GetItem, Literal, Pack, Select, FillNull, Zip, Binary, Not, Between, Like, IsNull, IsNotNull, Mask, Cast}
-use Rattle.vx_fn.specs.Functions.{Function, case_when, get_item, literal, pack, select, fill_null, zip, binary, logical_not, between, like, is_null, is_not_null, mask, cast}
+use Rattle.vx_fn.specs.declared.function.ScalarFnRef.TheVariants.{CaseWhen, GetItem, Literal, Pack, Select, FillNull, Zip, Binary, Not, Between, Like, IsNull, IsNotNull, Mask, Cast, StartsWith, ByteLength}
+use Rattle.vx_fn.specs.Functions.{Function, case_when, get_item, literal, pack, select, fill_null, zip, binary, logical_not, between, like, is_null, is_not_null, mask, cast, starts_with, byte_length}
 use Rattle.vx_fn.specs.Views.{function_of}
 
 -- the options of a CASE
@@ -315,3 +315,43 @@ cast_exactly _ o = (λ e. cc, λ e. cc)
 pub cast_told : (f : ScalarFnRef) → is_some (cast_options f) ≡ is_cast (function_of f)
 cast_told (Cast p) = refl
 cast_told _ = refl
+
+-- the options of a test of a beginning
+abbrev pub starts_with_options : ScalarFnRef → Option EmptyOptions
+starts_with_options (StartsWith o) = Some o
+starts_with_options _ = None
+
+-- whether the function is a test of a beginning
+abbrev pub is_starts_with : Function → Bool
+is_starts_with starts_with = true
+is_starts_with _ = false
+
+-- the options are `o` exactly where it is a test of a beginning with them
+pub starts_with_exactly : (f : ScalarFnRef) (o : EmptyOptions) → (starts_with_options f ≡ Some o) ↔ (f ≡ StartsWith o)
+starts_with_exactly (StartsWith p) o = (λ e. cc, λ e. cc)
+starts_with_exactly _ o = (λ e. cc, λ e. cc)
+
+-- there are options exactly where it is a test of a beginning
+pub starts_with_told : (f : ScalarFnRef) → is_some (starts_with_options f) ≡ is_starts_with (function_of f)
+starts_with_told (StartsWith p) = refl
+starts_with_told _ = refl
+
+-- the options of a length
+abbrev pub byte_length_options : ScalarFnRef → Option EmptyOptions
+byte_length_options (ByteLength o) = Some o
+byte_length_options _ = None
+
+-- whether the function is a length
+abbrev pub is_byte_length : Function → Bool
+is_byte_length byte_length = true
+is_byte_length _ = false
+
+-- the options are `o` exactly where it is a length with them
+pub byte_length_exactly : (f : ScalarFnRef) (o : EmptyOptions) → (byte_length_options f ≡ Some o) ↔ (f ≡ ByteLength o)
+byte_length_exactly (ByteLength p) o = (λ e. cc, λ e. cc)
+byte_length_exactly _ o = (λ e. cc, λ e. cc)
+
+-- there are options exactly where it is a length
+pub byte_length_told : (f : ScalarFnRef) → is_some (byte_length_options f) ≡ is_byte_length (function_of f)
+byte_length_told (ByteLength p) = refl
+byte_length_told _ = refl

@@ -1,16 +1,17 @@
 -- The value of a function node at one row, from its children's values.
-use Rattle.std.specs.Prelude.{◌≡◌, ◌++◌, ℕ, Bool, true, false, ◌&&◌, ◌||◌, ◌==◌, not, List, [], ◌∷◌, Some, None, ℤ, ◌+ℤ◌, ◌-ℤ◌, ◌*ℤ◌, int_div, int_rem, if◌then◌else◌, map, chars}
+use Rattle.std.specs.Prelude.{◌≡◌, ◌++◌, ℕ, Bool, true, false, ◌&&◌, ◌||◌, ◌==◌, not, List, [], ◌∷◌, Some, None, ℤ, pos, length, nat_eq, ◌^◌, ◌-◌, min, ◌+ℤ◌, ◌-ℤ◌, ◌*ℤ◌, int_div, int_rem, if◌then◌else◌, map, chars}
 use Rattle.std.specs.declared.cmp.Ordering.{Ordering}
 use Rattle.std.specs.declared.cmp.Ordering.TheVariants.{Equal}
 use Rattle.std.specs.Ordering.{is_lt, is_le, is_gt, is_ge, is_eq, is_ne, nat_cmp, int_cmp, bool_cmp}
 use Rattle.std.specs.Char.{to_ascii_lowercase}
+use Rattle.std.specs.List as lists
 use Rattle.std.specs.Cmp.Lexicographic.{slice_cmp}
 use Rattle.vx_floats.specs.Floats.{float_order, float_result}
 use Rattle.vx_floats.specs.declared.arithmetic.Arithmetic.{Arithmetic}
 use Rattle.vx_floats.specs.declared.arithmetic.Arithmetic.TheVariants.{Sum, Difference, Product, Quotient, Remainder}
 use Rattle.vx_value.specs.Types.{Name, LogicalType, ty, struct, Datum, null, bool, int, float, utf8, bytes, struct_of, is_null_datum}
 use Rattle.vx_value.specs.Fields.{field_value, project_values, data_of}
-use Rattle.vx_fn.specs.Functions.{Function, case_when, get_item, literal, pack, select, fill_null, zip, binary, logical_not, between, like, is_null, is_not_null, mask, cast, Operation, compares, and_also, or_else, computes, Comparison, equal, not_equal, greater, greater_or_equal, less, less_or_equal, included}
+use Rattle.vx_fn.specs.Functions.{Function, case_when, get_item, literal, pack, select, fill_null, zip, binary, logical_not, between, like, is_null, is_not_null, mask, cast, starts_with, byte_length, Operation, compares, and_also, or_else, computes, Comparison, equal, not_equal, greater, greater_or_equal, less, less_or_equal, included}
 use Rattle.vx_fn.specs.declared.options.FieldSelection.{FieldSelection}
 
 -- whether the value is true
@@ -141,6 +142,22 @@ abbrev pub liked : Bool → Bool → Datum → Datum → Datum
 liked negated ignore_case (utf8 t) (utf8 p) = bool (flipped negated (is_like ignore_case t p))
 liked negated ignore_case _ _ = null
 
+-- ---- beginnings and lengths
+
+-- whether the text begins with the other, character for character
+abbrev pub starts_with_text : List ℕ → List ℕ → Bool
+starts_with_text t p = lists.starts_with nat_eq (chars t) (chars p)
+
+-- null with a null operand, else whether the text begins with the other
+abbrev pub begun : Datum → Datum → Datum
+begun (utf8 t) (utf8 p) = bool (starts_with_text t p)
+begun _ _ = null
+
+-- null of null, else the number of the text's bytes: at most the greatest that its type holds, which no text that fits into memory has
+abbrev pub counted_bytes : Datum → Datum
+counted_bytes (utf8 t) = int (pos (min (length t) (2 ^ 63 - 1)))
+counted_bytes _ = null
+
 -- ---- values at one row
 
 -- of conditions and values in turn, the value beside the first true condition, else the ELSE value, else null
@@ -198,3 +215,5 @@ fn_value is_null ts = at_one (λ v. bool (is_null_datum v))
 fn_value is_not_null ts = at_one (λ v. bool (not (is_null_datum v)))
 fn_value mask ts = at_two (λ v m. if is_true m then v else null)
 fn_value (cast t) ts = at_one (λ v. v)
+fn_value starts_with ts = at_two begun
+fn_value byte_length ts = at_one counted_bytes

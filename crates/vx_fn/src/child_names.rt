@@ -58,6 +58,8 @@ fn child_word(scalar_fn: &ScalarFnRef, index: usize) -> &'static str
         (ScalarFnRef::Like(_), _) => "pattern",
         (ScalarFnRef::Mask(_), 0) => "input",
         (ScalarFnRef::Mask(_), _) => "mask",
+        (ScalarFnRef::StartsWith(_), 0) => "input",
+        (ScalarFnRef::StartsWith(_), _) => "prefix",
         _ => "input",
     }
 }

@@ -41,7 +41,7 @@ impl Operator {
 }
 
 impl ScalarFnRef {
-    // The function's place among the fifteen.
+    // The function's place among them all.
     fn index(&self) -> u8
         ensures { result ≡ function_index (function_of self.now) }
     {
@@ -61,6 +61,8 @@ impl ScalarFnRef {
             ScalarFnRef::IsNotNull(_) => 12,
             ScalarFnRef::Mask(_) => 13,
             ScalarFnRef::Cast(_) => 14,
+            ScalarFnRef::StartsWith(_) => 15,
+            ScalarFnRef::ByteLength(_) => 16,
         }
     }
 }
@@ -100,6 +102,8 @@ impl PartialEq for ScalarFnRef {
             (ScalarFnRef::IsNotNull(_), ScalarFnRef::IsNotNull(_)) => true,
             (ScalarFnRef::Mask(_), ScalarFnRef::Mask(_)) => true,
             (ScalarFnRef::Cast(a), ScalarFnRef::Cast(b)) => a == b,
+            (ScalarFnRef::StartsWith(_), ScalarFnRef::StartsWith(_)) => true,
+            (ScalarFnRef::ByteLength(_), ScalarFnRef::ByteLength(_)) => true,
             _ => false,
         }
     }

@@ -1,4 +1,4 @@
-// The fifteen functions.
+// The functions.
 ghost use Rattle.std.specs.Prelude.{◌≡◌, ℕ, option_map};
 ghost use Rattle.vx_fn.specs.Views.{function_of};
 
@@ -43,6 +43,10 @@ pub enum ScalarFnRef {
     Mask(EmptyOptions),
     /// The input as a value of that type, which differs in nullability alone.
     Cast(DType),
+    /// Whether a text begins with another.
+    StartsWith(EmptyOptions),
+    /// The number of a text's bytes.
+    ByteLength(EmptyOptions),
 }
 
 impl Drop for ScalarFnRef {
@@ -62,7 +66,9 @@ impl Drop for ScalarFnRef {
             | ScalarFnRef::Like(_)
             | ScalarFnRef::IsNull(_)
             | ScalarFnRef::IsNotNull(_)
-            | ScalarFnRef::Mask(_) => {}
+            | ScalarFnRef::Mask(_)
+            | ScalarFnRef::StartsWith(_)
+            | ScalarFnRef::ByteLength(_) => {}
         }
     }
 }
@@ -87,6 +93,8 @@ impl Clone for ScalarFnRef {
             ScalarFnRef::IsNotNull(o) => Ok(ScalarFnRef::IsNotNull(*o)),
             ScalarFnRef::Mask(o) => Ok(ScalarFnRef::Mask(*o)),
             ScalarFnRef::Cast(dtype) => Ok(ScalarFnRef::Cast(dtype.clone()?)),
+            ScalarFnRef::StartsWith(o) => Ok(ScalarFnRef::StartsWith(*o)),
+            ScalarFnRef::ByteLength(o) => Ok(ScalarFnRef::ByteLength(*o)),
         }
     }
 }
@@ -114,6 +122,8 @@ impl ScalarFnRef {
             ScalarFnRef::IsNotNull(_) => "vortex.is_not_null",
             ScalarFnRef::Mask(_) => "vortex.mask",
             ScalarFnRef::Cast(_) => "vortex.cast",
+            ScalarFnRef::StartsWith(_) => "vortex.starts_with",
+            ScalarFnRef::ByteLength(_) => "vortex.byte_length",
         }
     }
 

@@ -18,8 +18,8 @@ pub use laws::{
     matches_is_decided, swapped_over_exchanged_operands, typing_is_monotone, typing_is_the_relation,
 };
 pub use markers::{
-    Between, Binary, CaseWhen, Cast, FillNull, GetItem, IsNotNull, IsNull, Like, Literal, Mask,
-    Not, Pack, ScalarFnVTable, Select, Zip,
+    Between, Binary, ByteLength, CaseWhen, Cast, FillNull, GetItem, IsNotNull, IsNull, Like,
+    Literal, Mask, Not, Pack, ScalarFnVTable, Select, StartsWith, Zip,
 };
 pub use options::{
     BetweenOptions, CaseWhenOptions, EmptyOptions, FieldSelection, LikeOptions, Operator,

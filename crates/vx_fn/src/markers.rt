@@ -6,12 +6,14 @@ ghost use Rattle.vx_fn.specs.Views.{function_of};
 mod choices;
 mod fields;
 mod operators;
+mod texts;
 mod values;
 
 use crate::ScalarFnRef;
 pub use choices::{CaseWhen, FillNull, Mask, Zip};
 pub use fields::{GetItem, Pack, Select};
 pub use operators::{Between, Binary, Like, Not};
+pub use texts::{ByteLength, StartsWith};
 pub use values::{Cast, IsNotNull, IsNull, Literal};
 
 /// A function seen by its options. Its laws: `exactly`, that the options of a function are `o`

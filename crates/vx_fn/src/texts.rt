@@ -46,6 +46,8 @@ fn write_options<W: Write>(scalar_fn: &ScalarFnRef, f: &mut Formatter<W>) -> fmt
         ScalarFnRef::IsNotNull(options) => options.fmt(f),
         ScalarFnRef::Mask(options) => options.fmt(f),
         ScalarFnRef::Cast(target) => target.fmt(f),
+        ScalarFnRef::StartsWith(options) => options.fmt(f),
+        ScalarFnRef::ByteLength(options) => options.fmt(f),
     }
 }
 

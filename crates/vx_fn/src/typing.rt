@@ -17,8 +17,8 @@ pub use fields::dtypes_of;
 use fields::{item_dtype, pack_dtype, select_dtype};
 pub(crate) use rows::is_atomic;
 use rows::{
-    between_dtype, binary_dtype, cast_dtype, fill_dtype, like_dtype, literal_dtype, mask_dtype,
-    not_dtype, truth_dtype, zip_dtype,
+    between_dtype, binary_dtype, cast_dtype, fill_dtype, length_dtype, like_dtype, literal_dtype,
+    mask_dtype, not_dtype, truth_dtype, zip_dtype,
 };
 use std::alloc::Global;
 use vx_types::{DType, VortexError, VortexResult};
@@ -44,6 +44,8 @@ impl ScalarFnRef {
             ScalarFnRef::IsNotNull(_) => 1,
             ScalarFnRef::Mask(_) => 2,
             ScalarFnRef::Cast(_) => 1,
+            ScalarFnRef::StartsWith(_) => 2,
+            ScalarFnRef::ByteLength(_) => 1,
         }
     }
 
@@ -60,12 +62,12 @@ impl ScalarFnRef {
     /// - `Binary`, And or Or, and `Not`: `NotBool` (7).
     /// - `Binary`, arithmetic: `NotNumeric` (9) at a type of no numbers, at decimals that are neither
     ///   added nor subtracted, or at the remainder of floats, `BaseTypesDiffer` (6).
-    /// - `Like`: `NotText` (10).
+    /// - `Like`, `StartsWith` and `ByteLength`: `NotText` (10).
     /// - `Mask`: `NotBool` (7) at a mask of another type or a nullable one.
     ///
     /// `OutOfMemory` (1) comes only where something is copied: never for `Binary`, `Not`,
-    /// `Between`, `Like`, `IsNull` and `IsNotNull`, and in place of another refusal only where that
-    /// is `NoSuchField`, or `BaseTypesDiffer` of `CaseWhen`.
+    /// `Between`, `Like`, `IsNull`, `IsNotNull`, `StartsWith` and `ByteLength`, and in place of another
+    /// refusal only where that is `NoSuchField`, or `BaseTypesDiffer` of `CaseWhen`.
     pub fn return_dtype(&self, alloc: Global, types: &[DType]) -> VortexResult<DType>
         ensures typed { ReturnsOrOom type_of result (fn_type (function_of self.now) (map type_of types.now)) }
         ensures literal { IfOk result (λ _. HasFittingLiteral (function_of self.now)) }
@@ -121,6 +123,10 @@ impl ScalarFnRef {
             (ScalarFnRef::Like(_), [child, pattern]) => {
                 like_dtype(child.as_dtype(), pattern.as_dtype())
             },
+            (ScalarFnRef::StartsWith(_), [input, prefix]) => {
+                like_dtype(input.as_dtype(), prefix.as_dtype())
+            },
+            (ScalarFnRef::ByteLength(_), [input]) => length_dtype(input.as_dtype()),
             (ScalarFnRef::IsNull(_) | ScalarFnRef::IsNotNull(_), [_]) => Ok(truth_dtype(false)),
             (ScalarFnRef::Mask(_), [input, mask]) => mask_dtype(input.as_dtype(), mask.as_dtype()),
             (ScalarFnRef::Cast(target), [input]) => cast_dtype(target, input.as_dtype()),

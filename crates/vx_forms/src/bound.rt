@@ -19,7 +19,7 @@ pub use crate::operators::{
     gt_eq, lt, lt_eq, not, not_eq, or,
 };
 use crate::scalars::IntoScalar;
-pub use crate::texts::{ilike, like, not_ilike, not_like};
+pub use crate::texts::{byte_length, ilike, like, not_ilike, not_like, starts_with};
 pub use crate::values::cast;
 use std::alloc::Global;
 pub use vx_build::bound::root;

@@ -40,7 +40,7 @@ pub use operators::{
 pub use paths::field;
 pub use replacing::replace_nodes;
 pub use scalars::{IntoScalar, scalar, struct_row};
-pub use texts::{ilike, like, not_ilike, not_like};
+pub use texts::{byte_length, ilike, like, not_ilike, not_like, starts_with};
 pub use types::struct_type;
 pub use values::{cast, lit};
 pub use vx_build::{is_root, root};

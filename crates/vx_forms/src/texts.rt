@@ -1,6 +1,6 @@
-// Matches of a pattern over operands.
+// Functions of texts over operands: matches of a pattern, tests of a beginning, and lengths.
 ghost use Rattle.std.specs.Prelude.{true, false, [], ◌∷◌};
-ghost use Rattle.vx_fn.specs.Functions.{like};
+ghost use Rattle.vx_fn.specs.Functions.{like, starts_with, byte_length};
 ghost use Rattle.vx_forms.specs.Given.{GivesOver};
 
 use crate::operands::Operand;
@@ -59,4 +59,25 @@ pub fn not_ilike<T: TreeNode, A: Operand<T>, B: Operand<T>>(
 {
     let child = child.into_tree()?;
     vx_build::not_ilike(alloc, child, pattern.into_tree()?)
+}
+
+/// Whether the text begins with the prefix. Refuses as the first operand that was refused, else over
+/// sources with `OutOfMemory` (1) alone, over bound trees as the node does: `NotText` (10).
+pub fn starts_with<T: TreeNode, A: Operand<T>, B: Operand<T>>(
+    alloc: Global,
+    child: A,
+    prefix: B,
+) -> VortexResult<T>
+    ensures { GivesOver T.seen (T.over starts_with) (A.given child ∷ B.given prefix ∷ []) result }
+{
+    let child = child.into_tree()?;
+    vx_build::starts_with(alloc, child, prefix.into_tree()?)
+}
+
+/// The number of the text's bytes. Refuses as the operand that was refused, else over sources with
+/// `OutOfMemory` (1) alone, over bound trees as the node does: `NotText` (10).
+pub fn byte_length<T: TreeNode, O: Operand<T>>(alloc: Global, child: O) -> VortexResult<T>
+    ensures { GivesOver T.seen (T.over byte_length) (O.given child ∷ []) result }
+{
+    vx_build::byte_length(alloc, child.into_tree()?)
 }

@@ -40,10 +40,10 @@ pub use notation::{Notation, write_tree};
 pub use scope::Scope;
 pub use typing::push_type_over;
 pub use vx_fn::{
-    Between, BetweenOptions, Binary, CaseWhen, CaseWhenOptions, Cast, ChildName, EmptyOptions,
-    FieldSelection, FillNull, GetItem, IsNotNull, IsNull, Like, LikeOptions, Literal, Mask, Not,
-    Operator, Pack, PackOptions, ScalarFnRef, ScalarFnVTable, Select, StrictComparison, Zip,
-    matches_is_decided, swapped_over_exchanged_operands, typing_is_monotone,
+    Between, BetweenOptions, Binary, ByteLength, CaseWhen, CaseWhenOptions, Cast, ChildName,
+    EmptyOptions, FieldSelection, FillNull, GetItem, IsNotNull, IsNull, Like, LikeOptions, Literal,
+    Mask, Not, Operator, Pack, PackOptions, ScalarFnRef, ScalarFnVTable, Select, StartsWith,
+    StrictComparison, Zip, matches_is_decided, swapped_over_exchanged_operands, typing_is_monotone,
     typing_is_the_relation, write_names,
 };
 pub use vx_types::{

@@ -115,7 +115,9 @@ fn write_own<N: Notation, T: TreeNode, W: Write>(
         | ScalarFnRef::Not(_)
         | ScalarFnRef::IsNull(_)
         | ScalarFnRef::IsNotNull(_)
-        | ScalarFnRef::Mask(_) => write_call(notation, scalar_fn, children, f),
+        | ScalarFnRef::Mask(_)
+        | ScalarFnRef::StartsWith(_)
+        | ScalarFnRef::ByteLength(_) => write_call(notation, scalar_fn, children, f),
     }
 }
 

@@ -4,13 +4,13 @@ ghost use Rattle.vx_value.specs.Returns.{ReturnsOrOom, Returns};
 ghost use Rattle.vx_value.specs.Fits.{Fits};
 ghost use Rattle.vx_value.specs.Types.{with_nullability};
 ghost use Rattle.vx_value.specs.Views.{admits_null, type_of};
-ghost use Rattle.vx_fn.specs.Functions.{fill_null, zip, mask as mask_function, cast, is_truth, is_text, is_number, is_number_for, is_additive, is_atomic, truth_type, binary_type, comparison_type, logic_type, arithmetic_type, fill_type, zip_type, not_type, between_type, like_type, mask_type, cast_type};
+ghost use Rattle.vx_fn.specs.Functions.{fill_null, zip, mask as mask_function, cast, is_truth, is_text, is_number, is_number_for, is_additive, is_atomic, truth_type, binary_type, comparison_type, logic_type, arithmetic_type, fill_type, zip_type, not_type, between_type, like_type, length_type, mask_type, cast_type};
 ghost use Rattle.vx_fn.specs.Memory.{RefusesEarly};
 ghost use Rattle.vx_fn.specs.Views.{operation_of};
 
 use crate::Operator;
 use std::alloc::Global;
-use vx_types::{Arithmetic, DType, Nullability, Scalar, VortexError, VortexResult};
+use vx_types::{Arithmetic, DType, Nullability, PType, Scalar, VortexError, VortexResult};
 
 // Reading the value tells that it is one of the type.
 pub(super) fn literal_dtype(scalar: &Scalar) -> VortexResult<DType>
@@ -157,6 +157,15 @@ pub(super) fn like_dtype(t: &DType, pattern: &DType) -> VortexResult<DType>
         return Err(VortexError::NotText);
     }
     Ok(truth_dtype(t.is_nullable() || pattern.is_nullable()))
+}
+
+pub(super) fn length_dtype(t: &DType) -> VortexResult<DType>
+    ensures { Returns type_of result (length_type (type_of t.now)) }
+{
+    match t {
+        DType::Utf8(n) => Ok(DType::Primitive(PType::I64, *n)),
+        _ => Err(VortexError::NotText),
+    }
 }
 
 pub(super) fn mask_dtype(t: &DType, mask: &DType) -> VortexResult<DType>
