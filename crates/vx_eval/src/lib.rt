@@ -3,7 +3,9 @@
 
 mod across;
 mod arithmetic;
+mod beginnings;
 mod blocks;
+mod byte_lengths;
 mod casting;
 mod choice;
 mod compared;

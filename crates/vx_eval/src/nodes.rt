@@ -11,7 +11,9 @@ ghost use Rattle.vx_eval.specs.Columns.{rows_view, rows_views, AllLong, Evaluate
 ghost use Rattle.vx_eval.specs.Items.{is_arithmetic};
 
 use crate::rows::Rows;
-use crate::{arithmetic, casting, choice, comparison, fields, logic, nulls, text};
+use crate::{
+    arithmetic, beginnings, byte_lengths, casting, choice, comparison, fields, logic, nulls, text,
+};
 use std::alloc::Global;
 use vx_fn::{Operator, ScalarFnRef};
 use vx_tree::BoundExpression;
@@ -71,6 +73,13 @@ pub fn apply<'a>(
             nulls::mask(alloc, count, input, mask)
         }
         ScalarFnRef::Cast(target) => casting::cast(count, target, one(columns)),
+        ScalarFnRef::StartsWith(_) => {
+            let (input, prefix) = pair(columns.as_slice());
+            beginnings::starts_with(alloc, count, input, prefix)
+        }
+        ScalarFnRef::ByteLength(_) => {
+            byte_lengths::byte_length(alloc, count, single(columns.as_slice()))
+        }
     }
 }
 

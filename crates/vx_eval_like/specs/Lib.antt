@@ -1,3 +1,4 @@
 pub mod Laws
 pub mod Patterns
 pub mod Walks
+pub mod Beginnings

@@ -51,8 +51,14 @@ returns-in-IsNotNull c = at_node _ _ _ _ _ _ _ _ (ap function_of c.in-IsNotNull.
 pub returns-in-Mask : goal.returns-in-Mask
 returns-in-Mask c = at_node _ _ _ _ _ _ _ _ (ap function_of c.in-Mask.is) refl (ap rows_views c.two-input-in-Mask.ensures) (c.mask.ensures (node_types (bounds_of c.args.children.now)))
 
+pub returns-in-Cast : goal.returns-in-Cast
+returns-in-Cast c = at_node _ _ _ _ _ _ _ _ (ap function_of c.in-Cast.is) refl (ap rows_views c.one-in-Cast.ensures) (c.cast.ensures (node_types (bounds_of c.args.children.now)))
+
+pub returns-in-StartsWith : goal.returns-in-StartsWith
+returns-in-StartsWith c = at_node _ _ _ _ _ _ _ _ (ap function_of c.in-StartsWith.is) refl (ap rows_views (sym c.as_slice-in-StartsWith.ensures.value ∙ c.pair-in-StartsWith.ensures)) (c.starts_with.ensures (node_types (bounds_of c.args.children.now)))
+
 pub returns : goal.returns
-returns c = at_node _ _ _ _ _ _ _ _ (ap function_of c.in-Cast.is) refl (ap rows_views c.one-in-Cast.ensures) (c.cast.ensures (node_types (bounds_of c.args.children.now)))
+returns c = at_node _ _ _ _ _ _ _ _ (ap function_of c.in-ByteLength.is) refl (ap rows_views (sym c.as_slice-in-ByteLength.ensures.value ∙ c.single-in-ByteLength.ensures)) (c.byte_length.ensures (node_types (bounds_of c.args.children.now)))
 
 pub returns-in-Like : goal.returns-in-Like
 returns-in-Like c = at_node _ _ _ _ _ _ _ _ (ap function_of c.in-Like.is) refl (ap rows_views (sym c.as_slice-in-Like.ensures.value ∙ c.pair.ensures)) (c.like.ensures (node_types (bounds_of c.args.children.now)))
