@@ -13,8 +13,8 @@ use Rattle.vx_value.specs.Types.{Name, LogicalType, ty, Shape, atomic, number, f
 use Rattle.vx_value.specs.Views.{admits_null, type_of}
 use Rattle.vx_fn.specs.Faults.{differs, has_fault, is_bad_fill, some_differ}
 use Rattle.vx_floats.specs.declared.arithmetic.Arithmetic.{Arithmetic}
-use Rattle.vx_fn.specs.Functions.{Function, Operation, compares, and_also, or_else, computes, binary, between, case_when, fill_null, like, literal, logical_not, is_atomic, is_null, is_not_null, mask, pack, zip}
-use Rattle.vx_fn.specs.Values.{bound_comparison, compared, kleene_and, kleene_or, kleene_not, liked, computed}
+use Rattle.vx_fn.specs.Functions.{Function, Operation, compares, and_also, or_else, computes, binary, between, case_when, fill_null, like, literal, logical_not, is_atomic, is_null, is_not_null, mask, pack, zip, starts_with, byte_length}
+use Rattle.vx_fn.specs.Values.{begun, bound_comparison, compared, counted_bytes, kleene_and, kleene_or, kleene_not, liked, computed}
 use Rattle.vx_fn.specs.Views.{function_of}
 use Rattle.vx_array_loops.specs.declared.comparison.Comparison.{Comparison as Asked}
 use Rattle.vx_array.specs.declared.lanes.Lanes.{Lanes}
@@ -66,6 +66,10 @@ between_given a b lower upper ts n vs ls us above below rows first second left r
 pub like_given : (negated ci : Bool) (ts : List LogicalType) (n : ℕ) (l r rows : List Datum) → rows ≡ both_rows n (liked negated ci) l r → node_answer (like negated ci) ts (rows_of n (l ∷ r ∷ [])) ≡ Ok rows
 like_given negated ci ts n l r rows is = given (like negated ci) ts n (l ∷ r ∷ []) rows refl is
 
+-- whether texts begin with others
+pub begun_given : (ts : List LogicalType) (n : ℕ) (l r rows : List Datum) → rows ≡ both_rows n begun l r → node_answer starts_with ts (rows_of n (l ∷ r ∷ [])) ≡ Ok rows
+begun_given ts n l r rows is = given starts_with ts n (l ∷ r ∷ []) rows refl is
+
 -- choices
 pub case_given : (pairs : ℕ) (has_else : Bool) (ts : List LogicalType) (n : ℕ) (cs : List (List Datum)) (rows : List Datum) → rows ≡ case_rows n cs → node_answer (case_when pairs has_else) ts (rows_of n cs) ≡ Ok rows
 case_given pairs has_else ts n cs rows is = given (case_when pairs has_else) ts n cs rows refl is
@@ -107,6 +111,9 @@ null_given ts n c rows long is = given is_null ts n (c ∷ []) rows refl (is ∙
 
 pub value_given : (ts : List LogicalType) (n : ℕ) (c rows : List Datum) → length c ≡ n → rows ≡ map value_told c → node_answer is_not_null ts (rows_of n (c ∷ [])) ≡ Ok rows
 value_given ts n c rows long is = given is_not_null ts n (c ∷ []) rows refl (is ∙ sym (each_of value_told c n long))
+
+pub length_given : (ts : List LogicalType) (n : ℕ) (c rows : List Datum) → length c ≡ n → rows ≡ map counted_bytes c → node_answer byte_length ts (rows_of n (c ∷ [])) ≡ Ok rows
+length_given ts n c rows long is = given byte_length ts n (c ∷ []) rows refl (is ∙ sym (each_of counted_bytes c n long))
 
 -- the same of a node whose function and columns are known by equations
 pub at_node : (node : Node) (g : Function) (cs : List (List Datum)) (n : ℕ) (rows : List Datum) → function_of node.function.now ≡ g → lanes_each node.below.now ≡ cs → n ≡ node.count → node_answer g (types_of node) (rows_of n cs) ≡ Ok rows → answer_of node ≡ Ok rows

@@ -17,8 +17,8 @@ use crate::node::Node;
 use std::alloc::{AllocError, Global};
 use vx_array::Lanes;
 use vx_array_kernels::{
-    Connective, Pair, Range, between, compare, comparison_of, computation_of, compute,
-    compute_floats, connect, fill_null, is_not_null, is_null, mask, not, zip,
+    Connective, Pair, Range, between, byte_length, compare, comparison_of, computation_of, compute,
+    compute_floats, connect, fill_null, is_not_null, is_null, mask, not, starts_with, zip,
 };
 use vx_array_loops::{Comparison, Computation};
 use vx_fn::{BetweenOptions, FillNull, Operator, ScalarFnRef, StrictComparison};
@@ -34,6 +34,7 @@ pub fn of_one(alloc: Global, node: Node, input: &Lanes) -> Result<Option<Lanes>,
         ScalarFnRef::Not(_) => not(alloc, input),
         ScalarFnRef::IsNull(_) => is_null(alloc, input),
         ScalarFnRef::IsNotNull(_) => is_not_null(alloc, input),
+        ScalarFnRef::ByteLength(_) => byte_length(alloc, input),
         _ => Ok(None),
     }
 }
@@ -49,6 +50,7 @@ pub fn of_two(alloc: Global, node: Node, pair: Pair) -> Result<Option<Lanes>, Al
         ScalarFnRef::Binary(operator) => binary(alloc, node, *operator, pair),
         ScalarFnRef::FillNull(_) => filled_of(alloc, node, pair),
         ScalarFnRef::Mask(_) => mask(alloc, pair),
+        ScalarFnRef::StartsWith(_) => starts_with(alloc, pair),
         _ => Ok(None),
     }
 }

@@ -41,7 +41,7 @@ pub numbers_held : (l : Lanes) (ns : Numbers) (v : Validity) (n : ℕ) → l ≡
 numbers_held l ns v n is long = ap length (sym (ap lanes_rows is ∙ rows-Numbers ns v)) ∙ long
 
 -- validities that show so many rows have as many
-has_rows : (v : Validity) (n : ℕ) → shown_count v n ≡ n → HasRows v n
+pub has_rows : (v : Validity) (n : ℕ) → shown_count v n ≡ n → HasRows v n
 has_rows All n e = tt
 has_rows Nothing n e = tt
 has_rows (Rows bits) n e = omega (arith, e)

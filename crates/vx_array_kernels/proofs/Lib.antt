@@ -15,3 +15,4 @@ pub mod Quick
 mod AllValid
 mod Keyed
 mod FloatsComputed
+mod ByBytes

@@ -2,6 +2,7 @@
 #![tactic(auto)]
 
 mod arithmetic;
+mod beginnings;
 mod blend;
 mod byte_kind;
 mod byte_rows;
@@ -12,6 +13,7 @@ mod float_arithmetic;
 mod float_comparison;
 mod float_rows;
 mod keys;
+mod lengths;
 mod likeness;
 mod logic;
 mod masks;
@@ -21,15 +23,18 @@ mod pair;
 mod picked;
 mod ranges;
 mod reach;
+mod text_validity;
 mod truths;
 mod validity;
 mod width;
 mod widths;
 
 pub use arithmetic::{computation_of, compute};
+pub use beginnings::starts_with;
 pub use choices::{case_when, fill_null, zip};
 pub use comparison::{compare, comparison_of};
 pub use float_arithmetic::compute_floats;
+pub use lengths::byte_length;
 pub use likeness::like;
 pub use logic::{Connective, connect, not};
 pub use masks::mask;
