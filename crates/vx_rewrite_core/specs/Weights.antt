@@ -2,7 +2,7 @@
 use Rattle.std.specs.Prelude.{ℕ, ◌+◌, ◌*◌}
 use Rattle.vx_value.specs.Types.{LogicalType, ty, struct}
 use Rattle.vx_value.specs.Fields.{field_count}
-use Rattle.vx_fn.specs.Functions.{Function, get_item, literal, pack, select, zip, case_when}
+use Rattle.vx_fn.specs.Functions.{Function, get_item, literal, pack, select, zip, case_when, like}
 use Rattle.vx_tree.specs.Trees.{BoundTree, scope, node, BoundTrees, no_bound, bound}
 
 -- how many fields a struct type has
@@ -17,6 +17,7 @@ node_weight (get_item a) t k = 2 + k
 node_weight (pack names n) t k = 2 + k
 node_weight zip t k = 2 + k
 node_weight (case_when pairs has_else) t k = 2 + k
+node_weight (like negated case_insensitive) t k = 2 + k
 node_weight (select sel) t k = 3 + (width t + 1) * k
 node_weight _ t k = 1 + k
 

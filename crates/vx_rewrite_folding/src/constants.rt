@@ -28,6 +28,7 @@ fn is_computed(scalar_fn: &ScalarFnRef) -> bool
         ScalarFnRef::Binary(_) | ScalarFnRef::Not(_) | ScalarFnRef::Between(_) => true,
         ScalarFnRef::IsNull(_) | ScalarFnRef::IsNotNull(_) | ScalarFnRef::FillNull(_) => true,
         ScalarFnRef::Like(_) | ScalarFnRef::Mask(_) | ScalarFnRef::Cast(_) => true,
+        ScalarFnRef::StartsWith(_) | ScalarFnRef::ByteLength(_) => true,
         ScalarFnRef::CaseWhen(_) | ScalarFnRef::Zip(_) | ScalarFnRef::Literal(_) => false,
         ScalarFnRef::GetItem(_) | ScalarFnRef::Pack(_) | ScalarFnRef::Select(_) => false,
     }
@@ -111,7 +112,7 @@ pub(crate) fn truth_literal(alloc: Global, b: bool) -> VortexResult<BoundExpress
 }
 
 // The literal of the scalar.
-fn literal(alloc: Global, scalar: Scalar) -> VortexResult<BoundExpression>
+pub(crate) fn literal(alloc: Global, scalar: Scalar) -> VortexResult<BoundExpression>
     ensures { ReturnsOrOom bound_of result (Ok (literal_node scalar.type scalar.value)) }
 {
     let dtype = scalar.dtype().clone()?;

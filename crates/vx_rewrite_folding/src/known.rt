@@ -6,12 +6,13 @@ ghost use Rattle.vx_value.specs.Returns.{ReturnsOrOom};
 ghost use Rattle.vx_value.specs.Views.{type_of};
 ghost use Rattle.vx_fn.specs.Functions.{binary};
 ghost use Rattle.vx_fn.specs.Views.{function_of, operation_of};
-ghost use Rattle.vx_rewrite_folding.specs.Known.{HasNull, is_case, tree_of};
+ghost use Rattle.vx_rewrite_folding.specs.Known.{IsMade, is_case, tree_of};
 ghost use Rattle.vx_rewrite_rule_laws.specs.Folding.{known_given};
 ghost use Rattle.vx_tree.specs.Trees.{node};
 ghost use Rattle.vx_tree.specs.Views.{bound_of, bounds_of};
 
 use crate::constants::truth_literal;
+use crate::like::{beginning_tree, known_of_like};
 use crate::logic::known_of_logic;
 use crate::nulls::{known_of_between, known_of_comparison};
 use crate::single::{known_of_cast, known_of_mask, known_of_not, known_of_test};
@@ -30,6 +31,17 @@ pub(crate) enum Known<'a> {
     Truth(bool),
     // The null literal of that type.
     Null(&'a DType),
+    // A test whether texts begin with one.
+    Beginning(BeginningTest<'a>),
+}
+
+// A test, of that type, whether the texts of a tree begin with a literal of that type.
+#[derive(Clone, Copy)]
+pub(crate) struct BeginningTest<'a> {
+    pub dtype: &'a DType,
+    pub input: &'a BoundExpression,
+    pub prefix_dtype: &'a DType,
+    pub prefix: &'a str,
 }
 
 // What is known of a node of that type and function over the children, if anything. A CASE isn't asked:
@@ -48,6 +60,7 @@ pub(crate) fn known_of<'a>(
         ScalarFnRef::Not(_) => known_of_not(children),
         ScalarFnRef::Cast(_) => known_of_cast(dtype, children),
         ScalarFnRef::Mask(_) => known_of_mask(children),
+        ScalarFnRef::Like(options) => known_of_like(dtype, *options, children),
         ScalarFnRef::IsNull(_) => known_of_test(false, children),
         ScalarFnRef::IsNotNull(_) => known_of_test(true, children),
         _ => None,
@@ -78,12 +91,13 @@ fn known_of_binary<'a>(
 
 // The tree that is known.
 pub(crate) fn known_tree(alloc: Global, known: &Known) -> VortexResult<BoundExpression>
-    requires { HasNull known.now }
+    requires { IsMade known.now }
     ensures { ReturnsOrOom bound_of result (Ok (tree_of known.now)) }
 {
     match *known {
         Known::Tree(tree) => Ok(tree.clone()?),
         Known::Truth(b) => truth_literal(alloc, b),
         Known::Null(dtype) => null_of(alloc, dtype),
+        Known::Beginning(test) => beginning_tree(alloc, test),
     }
 }

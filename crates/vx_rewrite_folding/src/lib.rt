@@ -6,6 +6,7 @@ mod cases;
 mod constants;
 mod given;
 mod known;
+mod like;
 mod logic;
 mod nulls;
 mod rules;

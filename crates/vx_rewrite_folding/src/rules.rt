@@ -20,6 +20,7 @@ use vx_tree::{BoundExpression, VortexResult};
 /// | `Not` of a `Not` | always | what that negates |
 /// | `Cast` | the child is of the node's type | the child |
 /// | `Mask` | the mask is the literal `true` | the input |
+/// | `Like`, neither negated nor blind to case | the pattern is a literal: a text without `%`, `_` and backslash, and a `%` behind it | `StartsWith` of that text |
 /// | `IsNull` | the child's type isn't nullable | `false` |
 /// | `IsNotNull` | the child's type isn't nullable | `true` |
 /// | `CaseWhen` | the condition of a pair behind the first is the literal `false` or null | the `CaseWhen` without all such pairs; its own type, which may be narrower |

@@ -4,9 +4,10 @@ use Rattle.vx_rewrite_core.specs.Keeps.{Keeps}
 use Rattle.vx_rewrite_core.specs.Sets.{Keeping}
 use Rattle.vx_rewrite_rule_laws.proofs.Cases.{keeps_fewer_pairs}
 use Rattle.vx_rewrite_rule_laws.proofs.Constants.{keeps_constant}
-use Rattle.vx_rewrite_rule_laws.proofs.Folds.{Folds, constant, neutral_left, neutral_right, decided_left, decided_right, equal_sides, null_left, null_right, null_within, null_bounds, negated_twice, own_cast, masked_nowhere, never_null, always_there, fewer_pairs, folds}
+use Rattle.vx_rewrite_rule_laws.proofs.Folds.{Folds, constant, neutral_left, neutral_right, decided_left, decided_right, equal_sides, null_left, null_right, null_within, null_bounds, negated_twice, own_cast, masked_nowhere, begun, never_null, always_there, fewer_pairs, folds}
 use Rattle.vx_rewrite_rule_laws.proofs.Logic.{keeps_neutral_left, keeps_neutral_right, keeps_decided_left, keeps_decided_right, keeps_equal_sides}
 use Rattle.vx_rewrite_rule_laws.proofs.Nulls.{keeps_null_left, keeps_null_right, keeps_null_within, keeps_null_bounds, keeps_never_null, keeps_always_there}
+use Rattle.vx_rewrite_rule_laws.proofs.Beginnings.{keeps_begun}
 use Rattle.vx_rewrite_rule_laws.proofs.Undone.{keeps_negated_twice, keeps_own_cast, keeps_masked_nowhere}
 use Rattle.vx_rewrite_rule_laws.specs.Folding.{FoldAt}
 
@@ -24,6 +25,7 @@ each_keeps b u w (null_bounds {t = t} {ls = ls} {us = us} {x = x} {l = l} {u = h
 each_keeps b u w (negated_twice {t = t} {p = p} {x = x}) = keeps_negated_twice t p x w
 each_keeps b u w (own_cast {t = t} {v = v} {x = x} e) = keeps_own_cast t v x w e
 each_keeps b u w (masked_nowhere {t = t} {x = x} {m = m} e) = keeps_masked_nowhere t x m w e
+each_keeps b u w (begun {t = t} {u = v} {v = y} {x = x} {xs = xs} {p = p} {q = q} e) = keeps_begun t v y x xs p q w e
 each_keeps b u w (never_null {t = t} {x = x} e) = keeps_never_null t x w e
 each_keeps b u w (always_there {t = t} {x = x} e) = keeps_always_there t x w e
 each_keeps b u w (fewer_pairs {t = t} {u = v} {pairs = pairs} {has_else = h} {c = c} {x = x} k l e) = keeps_fewer_pairs k t v pairs h c x w e

@@ -3,8 +3,8 @@ use Rattle.std.proofs.Common.{ℕ}
 use Rattle.vx_tree.specs.Trees.{BoundTree, BoundTrees}
 use Rattle.vx_tree.specs.Nodes.{bound_children_of}
 use Rattle.vx_rewrite_core.proofs.Prelude.{below_inside}
-use Rattle.vx_rewrite_core.specs.FromSubterms.{Inside, at_first, in_first, in_rest, IsLiteral, is_literal, EachFrom, from_none, from_inside, FromSubterms}
-use Rattle.vx_rewrite_rule_laws.proofs.Folds.{Folds, constant, neutral_left, neutral_right, decided_left, decided_right, equal_sides, null_left, null_right, null_within, null_bounds, negated_twice, own_cast, masked_nowhere, never_null, always_there, fewer_pairs, folds}
+use Rattle.vx_rewrite_core.specs.FromSubterms.{Inside, at_first, in_first, in_rest, IsLiteral, is_literal, EachFrom, from_none, from_inside, from_literal, FromSubterms}
+use Rattle.vx_rewrite_rule_laws.proofs.Folds.{Folds, constant, neutral_left, neutral_right, decided_left, decided_right, equal_sides, null_left, null_right, null_within, null_bounds, negated_twice, own_cast, masked_nowhere, begun, never_null, always_there, fewer_pairs, folds}
 use Rattle.vx_rewrite_rule_laws.proofs.Pairs.{Without, no_pair, else_alone, left_out, stays}
 use Rattle.vx_rewrite_rule_laws.specs.Folding.{FoldAt}
 
@@ -29,6 +29,7 @@ each_from b u (null_bounds e f) = from_none
 each_from b u (negated_twice {x = x}) = below_inside x _ (in_first at_first)
 each_from b u (own_cast {x = x} e) = below_inside x _ at_first
 each_from b u (masked_nowhere {x = x} e) = below_inside x _ at_first
+each_from b u (begun e) = from_inside at_first (from_literal is_literal from_none)
 each_from b u (never_null e) = from_none
 each_from b u (always_there e) = from_none
 each_from b u (fewer_pairs k l e) = kept_from (stays k) _ (λ x i. i)

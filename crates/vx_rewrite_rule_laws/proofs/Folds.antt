@@ -1,15 +1,16 @@
 -- What folding gives, as one case for each way in which it comes about.
-use Rattle.std.proofs.Common.{◌≡◌, inl, inr, ℕ, ◌-◌, ◌<◌, refl, subst, Bool, true, false, not, ◌&&◌, ◌||◌, ◌⊎◌}
+use Rattle.std.proofs.Common.{◌≡◌, inl, inr, ℕ, List, ◌-◌, ◌<◌, refl, subst, Bool, true, false, not, ◌&&◌, ◌||◌, ◌⊎◌}
 use Rattle.std.specs.Prelude.{Option, Some, None, Result, Ok, Err, option_and_then, if◌then◌else◌, nat_lt}
-use Rattle.std.specs.Option.{option_or, is_none}
+use Rattle.std.specs.Option.{option_map, option_or, is_none}
 use Rattle.std.specs.Result.{result_ok}
 use Rattle.std.proofs.lemmas.Option.{option_and_then_some}
 use Rattle.std.proofs.lemmas.Bool.{and_parts, or_cases, not-true, ltb-true}
 use Rattle.vx_dtype.specs.declared.error.VortexError.{VortexError}
 use Rattle.vx_value.specs.Deciding.{equal_type-Decides}
 use Rattle.vx_value.specs.Equality.{equal_type}
-use Rattle.vx_value.specs.Types.{LogicalType, Datum, null, bool, is_nullable, is_null_datum}
-use Rattle.vx_fn.specs.Functions.{Function, case_when, binary, logical_not, between, is_null, is_not_null, mask, cast, Operation, Comparison, compares, and_also, or_else, fn_type}
+use Rattle.vx_eval_like.specs.Beginnings.{beginning_of}
+use Rattle.vx_value.specs.Types.{LogicalType, Datum, null, bool, utf8, is_nullable, is_null_datum}
+use Rattle.vx_fn.specs.Functions.{Function, case_when, literal, binary, logical_not, between, like, is_null, is_not_null, mask, cast, Operation, Comparison, compares, and_also, or_else, fn_type}
 use Rattle.vx_fn.specs.Values.{is_true}
 use Rattle.vx_tree.specs.Binding.{node_over}
 use Rattle.vx_tree.specs.Equality.{equal_bound, equal_bound-Decides}
@@ -19,7 +20,7 @@ use Rattle.vx_tree.specs.Trees.{BoundTree, scope, node, BoundTrees, no_bound, bo
 use Rattle.vx_rewrite_core.specs.Nodes.{one_bound, two_bounds, three_bounds, only_if, literal_node, literal_value}
 use Rattle.vx_rewrite_rule_laws.proofs.StandardDecisions.{under_test}
 use Rattle.vx_rewrite_rule_laws.proofs.Pairs.{Without, without}
-use Rattle.vx_rewrite_rule_laws.specs.Folding.{is_literal_of, are_literals, truth_literal, is_computed, one_row, constant_given, beside, logic_given, comparison_given, between_given, not_given, cast_given, mask_given, test_given, idle_pairs, without_idle, case_given, known_given, fold_given}
+use Rattle.vx_rewrite_rule_laws.specs.Folding.{is_literal_of, are_literals, truth_literal, is_computed, one_row, constant_given, beside, logic_given, comparison_given, between_given, not_given, cast_given, mask_given, begins_so, like_given, test_given, idle_pairs, without_idle, case_given, known_given, fold_given}
 
 -- And, which true leaves as it is, or Or, which false does
 abbrev pub joins : Bool → Operation
@@ -48,6 +49,8 @@ pub data Folds : BoundTree → BoundTree → Type 0 where
   -- a cast to the type of what is cast is that, and so is a mask that is true in every row
   own_cast : {t v : LogicalType} {x : BoundTree} → node_type x ≡ t → Folds (node t (cast v) (one_bound x)) x
   masked_nowhere : {t : LogicalType} {x m : BoundTree} → is_literal_of is_true m ≡ true → Folds (node t mask (two_bounds x m)) x
+  -- a match with the pattern of a beginning is a test of that
+  begun : {t u v : LogicalType} {x : BoundTree} {xs : BoundTrees} {p q : List ℕ} → beginning_of p ≡ Some q → Folds (node t (like false false) (two_bounds x (node u (literal v (utf8 p)) xs))) (begins_so t x u q)
   -- what is never null isn't null
   never_null : {t : LogicalType} {x : BoundTree} → is_nullable (node_type x) ≡ false → Folds (node t is_null (one_bound x)) (truth_literal false)
   always_there : {t : LogicalType} {x : BoundTree} → is_nullable (node_type x) ≡ false → Folds (node t is_not_null (one_bound x)) (truth_literal true)
@@ -153,6 +156,14 @@ cast_folds t v x u e = under_test (Folds (node t (cast v) (one_bound x))) (equal
 mask_folds : (t : LogicalType) (x m u : BoundTree) → mask_given x m ≡ Some u → Folds (node t mask (two_bounds x m)) u
 mask_folds t x m u e = under_test (Folds (node t mask (two_bounds x m))) (is_literal_of is_true m) x u (λ h. masked_nowhere h) e
 
+like_folds : (t : LogicalType) (x m u : BoundTree) → like_given t x m ≡ Some u → Folds (node t (like false false) (two_bounds x m)) u
+like_folds t x (node w (literal v (utf8 p)) xs) u e = go (beginning_of p) refl e
+  where
+    go : (o : Option (List ℕ)) → beginning_of p ≡ o → option_map (begins_so t x w) o ≡ Some u → Folds (node t (like false false) (two_bounds x (node w (literal v (utf8 p)) xs))) u
+    go None h e = cc
+    go (Some q) h e = let g : begins_so t x w q ≡ u = cc in subst (Folds (node t (like false false) (two_bounds x (node w (literal v (utf8 p)) xs)))) g (begun h)
+like_folds t x _ u e = cc
+
 null_folds : (t : LogicalType) (x u : BoundTree) → test_given false x ≡ Some u → Folds (node t is_null (one_bound x)) u
 null_folds t x u e = under_test (Folds (node t is_null (one_bound x))) (not (is_nullable (node_type x))) (truth_literal false) u (λ h. never_null (not-true _ h)) e
 
@@ -182,6 +193,7 @@ known_folds (node t (between ls us) (bound x (bound l (bound h no_bound)))) u e 
 known_folds (node t logical_not (bound x no_bound)) u e = negation_folds t x u e
 known_folds (node t (cast v) (bound x no_bound)) u e = cast_folds t v x u e
 known_folds (node t mask (bound x (bound m no_bound))) u e = mask_folds t x m u e
+known_folds (node t (like false false) (bound x (bound m no_bound))) u e = like_folds t x m u e
 known_folds (node t is_null (bound x no_bound)) u e = null_folds t x u e
 known_folds (node t is_not_null (bound x no_bound)) u e = not_null_folds t x u e
 known_folds (node t (case_when pairs has_else) (bound c (bound x rest))) u e = case_folds t pairs has_else c x rest u e

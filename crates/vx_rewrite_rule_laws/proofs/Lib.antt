@@ -26,3 +26,4 @@ pub mod FoldingKeeping
 pub mod FoldingLightening
 pub mod FoldingModesty
 pub mod FoldingLawfulness
+pub mod Beginnings

@@ -1,10 +1,11 @@
 -- Folding: what stands for a node whose value is known before any row is read.
 use Rattle.std.specs.Prelude.{◌≡◌, ℕ, ◌+◌, ◌-◌, Bool, true, false, ◌&&◌, ◌||◌, not, List, [], ◌∷◌, Option, Some, None, option_and_then, if◌then◌else◌, nat_lt}
-use Rattle.std.specs.Option.{option_or, is_none}
+use Rattle.std.specs.Option.{option_map, option_or, is_none}
 use Rattle.std.specs.Result.{result_ok}
 use Rattle.vx_value.specs.Equality.{equal_type}
-use Rattle.vx_value.specs.Types.{LogicalType, Datum, null, bool, is_nullable, is_null_datum}
-use Rattle.vx_fn.specs.Functions.{Function, case_when, get_item, literal, pack, select, zip, fill_null, binary, logical_not, between, like, is_null, is_not_null, mask, cast, compares, and_also, or_else, truth_type}
+use Rattle.vx_eval_like.specs.Beginnings.{beginning_of}
+use Rattle.vx_value.specs.Types.{LogicalType, Datum, null, bool, utf8, is_nullable, is_null_datum}
+use Rattle.vx_fn.specs.Functions.{Function, case_when, get_item, literal, pack, select, zip, fill_null, binary, logical_not, between, like, is_null, is_not_null, mask, cast, starts_with, byte_length, compares, and_also, or_else, truth_type}
 use Rattle.vx_fn.specs.Values.{is_true}
 use Rattle.vx_tree.specs.Binding.{node_over}
 use Rattle.vx_tree.specs.Equality.{equal_bound}
@@ -13,7 +14,7 @@ use Rattle.vx_tree.specs.Meaning.{value}
 use Rattle.vx_tree.specs.Trees.{BoundTree, node, BoundTrees, no_bound, bound, node_type}
 use Rattle.vx_rewrite_rule_laws.specs.Branches.{BranchRuleAt}
 use Rattle.vx_rewrite_core.specs.Steps.{GivesNothing}
-use Rattle.vx_rewrite_core.specs.Nodes.{only_one, two_of, three_of, first_two, only_if, literal_node, literal_value}
+use Rattle.vx_rewrite_core.specs.Nodes.{two_bounds, only_one, two_of, three_of, first_two, only_if, literal_node, literal_value}
 use Rattle.vx_rewrite_core.specs.Sets.{either}
 
 -- ---- literals
@@ -45,6 +46,8 @@ is_computed is_null = true
 is_computed is_not_null = true
 is_computed mask = true
 is_computed (cast t) = true
+is_computed starts_with = true
+is_computed byte_length = true
 is_computed (case_when pairs has_else) = false
 is_computed (get_item a) = false
 is_computed (literal t c) = false
@@ -105,6 +108,17 @@ mask_given x m = only_if (is_literal_of is_true m) x
 abbrev pub test_given : Bool → BoundTree → Option BoundTree
 test_given answer x = only_if (not (is_nullable (node_type x))) (truth_literal answer)
 
+-- ---- LIKE
+
+-- a test whether what is matched begins so
+abbrev pub begins_so : LogicalType → BoundTree → LogicalType → List ℕ → BoundTree
+begins_so t x u q = node t starts_with (two_bounds x (literal_node u (utf8 q)))
+
+-- a match with the literal pattern of a beginning
+abbrev pub like_given : LogicalType → BoundTree → BoundTree → Option BoundTree
+like_given t x (node u (literal v (utf8 p)) xs) = option_map (begins_so t x u) (beginning_of p)
+like_given t x _ = None
+
 -- ---- CASE
 
 -- whether the condition is the literal false or null, which never holds
@@ -137,6 +151,7 @@ known_given (node t (between lower_strict upper_strict) xs) = option_and_then (�
 known_given (node t logical_not xs) = option_and_then not_given (only_one xs)
 known_given (node t (cast u) xs) = option_and_then (cast_given t) (only_one xs)
 known_given (node t mask xs) = option_and_then (λ p. mask_given p.0 p.1) (two_of xs)
+known_given (node t (like false false) xs) = option_and_then (λ p. like_given t p.0 p.1) (two_of xs)
 known_given (node t is_null xs) = option_and_then (test_given false) (only_one xs)
 known_given (node t is_not_null xs) = option_and_then (test_given true) (only_one xs)
 known_given (node t (case_when pairs has_else) xs) = option_and_then (λ p. case_given pairs has_else p.0 p.1 p.2) (first_two xs)

@@ -6,7 +6,7 @@ use Rattle.vx_fn.specs.Views.{function_of}
 use Rattle.vx_tree.specs.Trees.{node, node_type, WellTyped}
 use Rattle.vx_tree.specs.Views.{bound_of, bounds_of}
 use Rattle.vx_rewrite_rule_laws.specs.Folding.{known_given}
-use Rattle.vx_rewrite_folding.proofs.Nullable.{has_null}
+use Rattle.vx_rewrite_folding.proofs.Nullable.{is_made}
 use Rattle.vx_rewrite_folding.proofs.Shapes.{node_of, nothing_of_scope}
 use Rattle.vx_rewrite_folding.proofs.given.known_given.Goals as goal
 
@@ -29,4 +29,4 @@ pub known_tree-requires : goal.known_tree-requires
 known_tree-requires c =
     let b = bound_of c.args.node.now in
     let seen = node_of b _ _ _ c.in-Some.ensures c.dtype.ensures c.children-children.ensures.trees in
-    has_null b c.in-Some-known_of.known c.requires.typed c.requires.no_constant (ap known_given seen ∙ sym c.in-Some-known_of.ensures)
+    is_made b c.in-Some-known_of.known c.requires.typed c.requires.no_constant (ap known_given seen ∙ sym c.in-Some-known_of.ensures)
