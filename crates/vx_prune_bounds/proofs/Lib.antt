@@ -14,3 +14,5 @@ pub mod Orders
 pub mod Texts
 pub mod Likeness
 pub mod LikeMonotone
+pub mod BegunTexts
+pub mod Lengths

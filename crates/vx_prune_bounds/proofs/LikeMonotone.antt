@@ -7,7 +7,7 @@ use Rattle.vx_prune_bounds.proofs.Contained.{Within, within, implied, implies}
 use Rattle.vx_prune_bounds.specs.Beginnings.{beginning, none_like, only_text, surely_unlike, flipped_truths, like_truths}
 use Rattle.vx_prune_bounds.proofs.Texts.{before-within, past-within, only-within}
 
-three-within : (m e s n f t : Bool) → (m ≡ true → n ≡ true) → (e ≡ true → f ≡ true) → (s ≡ true → t ≡ true) → AreWithin (truths m e s) (truths n f t)
+pub three-within : (m e s n f t : Bool) → (m ≡ true → n ≡ true) → (e ≡ true → f ≡ true) → (s ≡ true → t ≡ true) → AreWithin (truths m e s) (truths n f t)
 three-within m e s n f t g h k = and_from (not m || n) ((not e || f) && (not s || t)) (implied m n g) (and_from (not e || f) (not s || t) (implied e f h) (implied s t k))
 
 -- turned round or not, the second may be all that the first may be

@@ -54,7 +54,7 @@ null_answer : (negated n f t : Bool) → n ≡ true → MayBe (flipped_truths ne
 null_answer false n f t e = e
 null_answer true n f t e = e
 
-some_answer : (both unlike b : Bool) → both ≡ true → (unlike ≡ true → b ≡ false) → (if b then both && not unlike else both) ≡ true
+pub some_answer : (both unlike b : Bool) → both ≡ true → (unlike ≡ true → b ≡ false) → (if b then both && not unlike else both) ≡ true
 some_answer both unlike false e f = e
 some_answer both false true e f = and_from _ _ e refl
 some_answer both true true e f = let h = f refl in cc

@@ -151,7 +151,7 @@ only-within l g m h p e f i k = go l g (rw (only m h p k).from at e) (rw (only m
 
 -- ---- as bytes tell
 
-beginning_cmp-before : (q t : List ℕ) → IsUtf8 q → IsUtf8 t → is_gt (beginning_cmp q t) ≡ is_before q (Some (utf8 t))
+pub beginning_cmp-before : (q t : List ℕ) → IsUtf8 q → IsUtf8 t → is_gt (beginning_cmp q t) ≡ is_before q (Some (utf8 t))
 beginning_cmp-before q t u v = beginning_cmp-gt q t ∙ rw (is_utf8-from_IsUtf8 q u, is_utf8-from_IsUtf8 t v) (by (slice_cmp nat_cmp q t) (slice_cmp nat_cmp t q) (nat_list_cmp_total.antisymm t q))
   where
     by : (o r : Ordering) → r ≡ ordering_reverse o → not (is_le o) ≡ (is_le r && not (is_le o))
@@ -159,7 +159,7 @@ beginning_cmp-before q t u v = beginning_cmp-gt q t ∙ rw (is_utf8-from_IsUtf8 
     by Equal r e = rw e refl
     by Greater r e = rw e refl
 
-beginning_cmp-past : (q t : List ℕ) → IsUtf8 q → IsUtf8 t → is_lt (beginning_cmp q t) ≡ is_past q (Some (utf8 t))
+pub beginning_cmp-past : (q t : List ℕ) → IsUtf8 q → IsUtf8 t → is_lt (beginning_cmp q t) ≡ is_past q (Some (utf8 t))
 beginning_cmp-past q t u v = beginning_cmp-lt q t ∙ rw (is_utf8-from_IsUtf8 q u, is_utf8-from_IsUtf8 t v) refl
 
 pub told-before : (p t : List ℕ) → IsUtf8 p → IsUtf8 t → is_gt (beginning_cmp (beginning false p) t) ≡ is_before (beginning false p) (Some (utf8 t))

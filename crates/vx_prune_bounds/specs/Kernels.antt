@@ -1,5 +1,5 @@
 -- Bounds of what functions give of values within bounds.
-use Rattle.std.specs.Prelude.{ℤ, Bool, false, ◌&&◌, ◌||◌, List, [], ◌∷◌, Option, Some, None, if◌then◌else◌, option_map}
+use Rattle.std.specs.Prelude.{ℤ, pos, Bool, false, ◌&&◌, ◌||◌, List, [], ◌∷◌, Option, Some, None, if◌then◌else◌, option_map}
 use Rattle.vx_floats.specs.declared.arithmetic.Arithmetic.{Arithmetic}
 use Rattle.vx_value.specs.Types.{Datum, null, int}
 use Rattle.vx_prune_bounds.specs.Bounds.{Bounds, bounds, nothing, exactly, join}
@@ -57,3 +57,7 @@ null_truths x = truths false x.value x.null
 -- bounds of a struct that is null where its only child is
 abbrev pub shaped_as : Bounds → Bounds
 shaped_as x = bounds x.null x.value None None
+
+-- bounds of a length that is null where what is counted is: it is no less than 0
+abbrev pub length_bounds : Bounds → Bounds
+length_bounds x = bounds x.null x.value (Some (int (pos 0))) None

@@ -7,3 +7,4 @@ pub mod Kernels
 pub mod Views
 pub mod Laws
 pub mod Beginnings
+pub mod Begun

@@ -3,7 +3,7 @@ ghost use Rattle.std.specs.Prelude.{◌≡◌, ℤ, option_map};
 ghost use Rattle.vx_value.specs.Types.{int, null};
 ghost use Rattle.vx_fn.specs.Values.{computed};
 ghost use Rattle.vx_prune_bounds.specs.Bounds.{exactly, Contains};
-ghost use Rattle.vx_prune_bounds.specs.Kernels.{whole, span, arithmetic_bounds, only_if, not_null, fill_bounds, choice_bounds, mask_bounds, null_truths, shaped_as};
+ghost use Rattle.vx_prune_bounds.specs.Kernels.{whole, span, arithmetic_bounds, only_if, not_null, fill_bounds, choice_bounds, mask_bounds, null_truths, shaped_as, length_bounds};
 ghost use Rattle.vx_prune_bounds.specs.Truths.{truths_in, truth_bounds};
 ghost use Rattle.vx_prune_bounds.specs.Views.{endpoint_value, bounds_view};
 
@@ -107,6 +107,19 @@ impl<'a> Bounds<'a> {
             null: self.null,
             value: self.value,
             least: None,
+            greatest: None,
+        }
+    }
+
+    /// The bounds of the length of a value within these: null where the value is, else no less than
+    /// 0. Takes no memory.
+    pub fn lengths(&self) -> Bounds<'a>
+        ensures { bounds_view result ≡ length_bounds (bounds_view self.now) }
+    {
+        Bounds {
+            null: self.null,
+            value: self.value,
+            least: Some(Endpoint::Int(0)),
             greatest: None,
         }
     }

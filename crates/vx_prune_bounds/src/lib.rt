@@ -2,6 +2,7 @@
 #![tactic(auto)]
 
 mod beginning;
+mod begun;
 mod bounds;
 mod comparing;
 mod endpoint;
@@ -13,6 +14,7 @@ mod shown;
 mod spans;
 mod truths;
 
+pub use begun::begun_truths;
 pub use bounds::Bounds;
 pub use comparing::{between_truths, comparison_truths};
 pub use endpoint::Endpoint;

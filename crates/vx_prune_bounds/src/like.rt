@@ -35,7 +35,7 @@ fn is_surely_unlike(ignore_case: bool, text: &Bounds, pattern: &Bounds) -> bool
 }
 
 // The only text that may be within the bounds.
-fn only_text<'a>(bounds: &Bounds<'a>) -> Option<&'a str>
+pub(crate) fn only_text<'a>(bounds: &Bounds<'a>) -> Option<&'a str>
     ensures { option_map (λ s. s.now) result ≡ only_text (bounds_view bounds.now) }
 {
     match (bounds.least, bounds.greatest) {

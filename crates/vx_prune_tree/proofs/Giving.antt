@@ -7,8 +7,8 @@ use Rattle.vx_value.specs.Fits.{Fits, EachFits}
 use Rattle.vx_value.specs.Types.{Name, number, decimals, LogicalType, ty, atomic, struct, Fields, Datum, null, bool, struct_of, is_null_datum}
 use Rattle.vx_dtype.specs.Lists.{Forall2, forall2_nil, forall2_cons}
 use Rattle.vx_fn.specs.Functions.{Function}
-use Rattle.vx_fn.specs.Rows.{FnType, of_case_else, of_case, of_get_item, of_literal, of_pack, of_select, of_fill_null, of_zip, of_comparison, of_and, of_or, of_arithmetic, of_float_arithmetic, of_decimal_arithmetic, of_not, of_between, of_like, of_is_null, of_is_not_null, of_mask, of_cast}
-use Rattle.vx_fn.specs.Values.{bound_comparison, compared, fn_value, item_value, kleene_and, kleene_not, kleene_or, liked, select_value}
+use Rattle.vx_fn.specs.Rows.{FnType, of_case_else, of_case, of_get_item, of_literal, of_pack, of_select, of_fill_null, of_zip, of_comparison, of_and, of_or, of_arithmetic, of_float_arithmetic, of_decimal_arithmetic, of_not, of_between, of_like, of_is_null, of_is_not_null, of_mask, of_cast, of_starts_with, of_byte_length}
+use Rattle.vx_fn.specs.Values.{begun, bound_comparison, compared, fn_value, item_value, kleene_and, kleene_not, kleene_or, liked, select_value}
 use Rattle.vx_fn.specs.declared.options.FieldSelection.{FieldSelection}
 use Rattle.vx_prune_bounds.proofs.Contained.{contains-exactly}
 use Rattle.vx_prune_bounds.proofs.Sounds.{truths_in-sound, truth_bounds-sound, not-sound, and-sound, or-sound, comparison-sound, between-sound, fill-sound, choice-sound, mask-sound, case-sound, is_null-sound, is_not_null-sound, shaped_as-sound}
@@ -18,6 +18,9 @@ use Rattle.vx_prune_bounds.specs.Comparing.{between_truths, comparison_truths}
 use Rattle.vx_prune_bounds.specs.Kernels.{null_truths, shaped_as}
 use Rattle.vx_prune_bounds.specs.Truths.{and_truths, not_truths, or_truths, truths_in}
 use Rattle.vx_prune_bounds.proofs.Likeness.{like-sound}
+use Rattle.vx_prune_bounds.proofs.BegunTexts.{begun-sound}
+use Rattle.vx_prune_bounds.proofs.Lengths.{length-sound}
+use Rattle.vx_prune_bounds.specs.Begun.{begun_truths}
 use Rattle.vx_prune_bounds.specs.Beginnings.{like_truths}
 use Rattle.vx_prune_tree.specs.Bounding.{unknown, item_bounds, fn_bounds}
 
@@ -74,3 +77,6 @@ fn_bounds-sound of_is_null (forall2_cons {x = v} e forall2_nil) (forall2_cons {x
 fn_bounds-sound of_is_not_null (forall2_cons {x = v} e forall2_nil) (forall2_cons {x = x} h forall2_nil) = truth_bounds-sound (not_truths (null_truths x)) (bool (not (is_null_datum v))) (is_not_null-sound x v h)
 fn_bounds-sound of_mask (forall2_cons {x = v} e (forall2_cons {x = m} f forall2_nil)) (forall2_cons {x = x} h (forall2_cons {x = y} g forall2_nil)) = mask-sound x (truths_in y) v m h (truths_in-sound y m false f g)
 fn_bounds-sound (of_cast s) (forall2_cons e forall2_nil) (forall2_cons h forall2_nil) = h
+fn_bounds-sound (of_starts_with {n = n} {m = m}) (forall2_cons {x = v} e (forall2_cons {x = w} f forall2_nil)) (forall2_cons {x = x} h (forall2_cons {x = y} g forall2_nil)) =
+    truth_bounds-sound (begun_truths x y) (begun v w) (begun-sound x y v w n m e f h g)
+fn_bounds-sound (of_byte_length {n = n}) (forall2_cons {x = v} e forall2_nil) (forall2_cons {x = x} h forall2_nil) = length-sound n x v e h

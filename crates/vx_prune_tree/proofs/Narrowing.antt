@@ -4,7 +4,7 @@ use Rattle.std.specs.Prelude.{◌==◌, if◌then◌else◌, not}
 use Rattle.vx_value.specs.Paths.{Path}
 use Rattle.vx_value.specs.Types.{LogicalType}
 use Rattle.vx_dtype.specs.Lists.{Forall2, forall2_nil, forall2_cons}
-use Rattle.vx_fn.specs.Functions.{Function, case_when, get_item, literal, pack, select, fill_null, zip, binary, logical_not, between, like, is_null, is_not_null, mask, cast, Operation, compares, and_also, or_else, computes}
+use Rattle.vx_fn.specs.Functions.{Function, case_when, get_item, literal, pack, select, fill_null, zip, binary, logical_not, between, like, is_null, is_not_null, mask, cast, starts_with, byte_length, Operation, compares, and_also, or_else, computes}
 use Rattle.vx_tree.specs.Trees.{BoundTree, scope, node, BoundTrees, no_bound, bound}
 use Rattle.vx_prune_bounds.proofs.Contained.{any_of-proper, exactly-proper, from_within, within, within-refl}
 use Rattle.vx_prune_bounds.proofs.Lattice.{meet-mono, meet-proper}
@@ -19,6 +19,9 @@ use Rattle.vx_prune_tree.specs.Knowing.{KnowsMore}
 use Rattle.vx_prune_tree.specs.Stats.{Facts}
 use Rattle.vx_prune_bounds.proofs.LikeMonotone.{like-mono}
 use Rattle.vx_prune_bounds.specs.Beginnings.{like_truths}
+use Rattle.vx_prune_bounds.proofs.BegunTexts.{begun-mono}
+use Rattle.vx_prune_bounds.specs.Begun.{begun_truths}
+use Rattle.vx_prune_bounds.proofs.Lengths.{length-mono}
 use Rattle.vx_prune_tree.specs.Bounding.{at_path_or, binary_bounds, bounds_in, each_bounds_in, fn_bounds, item_bounds, item_path, of_one, of_three, of_two, path_to_only, unknown}
 use Rattle.vx_prune_tree.specs.Verdicts.{verdict_of, IsAsSure, MoreIsAsSure, MoreNarrows}
 use Rattle.vx_prune_tree.specs.declared.verdicts.Verdict.TheVariants.{EveryRow, NoRow, Unknown}
@@ -81,6 +84,8 @@ fn_bounds-mono is_null a = one-mono _ (λ x y n. truth_bounds-mono (null_truths 
 fn_bounds-mono is_not_null a = one-mono _ (λ x y n. truth_bounds-mono (not_truths (null_truths x)) (not_truths (null_truths y)) (not-mono (null_truths x) (null_truths y) (null-mono x y n.0))) a
 fn_bounds-mono mask a = two-mono _ (λ x y n v w k. mask-mono x y (truths_in v) (truths_in w) n.0 (truths_in-mono v w k.0)) a
 fn_bounds-mono (cast u) a = one-mono _ (λ x y n. n.0) a
+fn_bounds-mono starts_with a = two-mono _ (λ x y n v w k. truth_bounds-mono (begun_truths x v) (begun_truths y w) (begun-mono x y v w n.0 k.0 k.1)) a
+fn_bounds-mono byte_length a = one-mono _ (λ x y n. length-mono x y n.0) a
 
 -- ---- trees
 

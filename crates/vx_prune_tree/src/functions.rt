@@ -14,8 +14,8 @@ ghost use Rattle.vx_prune_tree.specs.Cases.{is_of_children};
 
 use vx_fn::{Operator, ScalarFnRef};
 use vx_prune_bounds::{
-    Bounds, Truths, arithmetic_bounds, between_truths, choice_bounds, comparison_truths,
-    fill_bounds, like_truths, mask_bounds,
+    Bounds, Truths, arithmetic_bounds, begun_truths, between_truths, choice_bounds,
+    comparison_truths, fill_bounds, like_truths, mask_bounds,
 };
 use vx_types::{Arithmetic, DType, Scalar};
 
@@ -81,6 +81,7 @@ pub(crate) fn put_of_one(f: &ScalarFnRef, x: &mut Bounds)
         ScalarFnRef::IsNull(_) => *x = Bounds::of_truths(x.null_truths()),
         ScalarFnRef::IsNotNull(_) => *x = Bounds::of_truths(x.null_truths().not()),
         ScalarFnRef::Cast(_) => {}
+        ScalarFnRef::ByteLength(_) => *x = x.lengths(),
         _ => *x = unknown(),
     }
 }
@@ -97,6 +98,7 @@ pub(crate) fn put_of_two<'a>(f: &ScalarFnRef, x: &mut Bounds<'a>, y: &Bounds<'a>
         ScalarFnRef::Like(o) => {
             *x = Bounds::of_truths(like_truths(o.negated, o.case_insensitive, x, y));
         }
+        ScalarFnRef::StartsWith(_) => *x = Bounds::of_truths(begun_truths(x, y)),
         ScalarFnRef::Mask(_) => *x = mask_bounds(x, y.truths()),
         _ => *x = unknown(),
     }
