@@ -16,7 +16,7 @@ pub(crate) fn help_for(refusal: &VortexError) -> Option<&'static str> {
         VortexError::NotNumeric => Some(
             "compute with numbers of one type, as in x + 1: decimals have + and - alone, floats no %",
         ),
-        VortexError::NotText => Some("match a utf8 with a utf8, as in s like \"a%\""),
+        VortexError::NotText => Some("this takes texts of type utf8, as in s like \"a%\""),
         VortexError::NoPairs => Some("write at least one `when` with its `then`"),
         _ => None,
     }
@@ -27,9 +27,6 @@ pub(crate) fn help_for(refusal: &VortexError) -> Option<&'static str> {
 pub(crate) fn help_for_unread(text: &str, at: usize) -> Option<&'static str> {
     let bytes = text.as_bytes();
     match bytes.get(at)? {
-        b'-' => Some(
-            "leave a blank behind the dash of a difference, as in x - 1; for -x write 0 - x",
-        ),
         b'&' => Some("write `and`, as in x > 1 and y > 2"),
         b'|' => Some("write `or`, as in x > 1 or y > 2"),
         b'!' => Some("write `not`, as in not (x > 1)"),

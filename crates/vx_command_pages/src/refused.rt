@@ -99,7 +99,9 @@ impl<'a> RefusedNode<'a> {
             (ScalarFnRef::Zip(_) | ScalarFnRef::Mask(_), VortexError::NotBool) => {
                 return if is_last { Some(Role::Mask) } else { None };
             }
-            (ScalarFnRef::Binary(_) | ScalarFnRef::Like(_), _) => &[Role::Left, Role::Right],
+            (ScalarFnRef::Binary(_) | ScalarFnRef::Like(_) | ScalarFnRef::StartsWith(_), _) => {
+                &[Role::Left, Role::Right]
+            }
             (ScalarFnRef::Between(_), _) => &[Role::Value, Role::Lower, Role::Upper],
             (ScalarFnRef::FillNull(_), _) => &[Role::Value, Role::Fill],
             (ScalarFnRef::Zip(_), _) => &[Role::Value, Role::Other],

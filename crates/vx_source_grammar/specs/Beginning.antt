@@ -1,20 +1,20 @@
 -- What begins an operand: the scope root, a field, a value, a function, a CASE, or a bracket.
-use Rattle.std.specs.Prelude.{ℕ, zero, suc, ◌+◌, ◌==◌, if◌then◌else◌, true, false, List, [], ◌∷◌, ◌++◌, Option, Some, None, Result, Ok, Err, codes}
+use Rattle.std.specs.Prelude.{ℕ, pos, zero, suc, ◌+◌, ◌==◌, if◌then◌else◌, true, false, List, [], ◌∷◌, ◌++◌, Option, Some, None, Result, Ok, Err, codes}
 use Rattle.std.specs.Str.{bytes_eq}
 use Rattle.vx_value.specs.Columns.{Constant}
-use Rattle.vx_value.specs.Types.{Name, LogicalType, Datum}
-use Rattle.vx_fn.specs.Functions.{Function, literal, get_item, pack, cast, fill_null, zip, is_null, is_not_null, mask}
+use Rattle.vx_value.specs.Types.{Name, LogicalType, int}
+use Rattle.vx_fn.specs.Functions.{Function, literal, get_item, pack, cast, fill_null, zip, is_null, is_not_null, mask, starts_with, byte_length}
 use Rattle.vx_tree.specs.Trees.{Tree, root}
 use Rattle.vx_source_types.specs.declared.expectation.Expected.{Expected}
-use Rattle.vx_source_types.specs.declared.expectation.Expected.TheVariants.{Operand, OperandOrParens, Name as AName, Value, Number, FieldValue, FittingType, Function as AFunction, Options, OpenParen as AParen, CloseParen as TheParen, CloseBracket as TheBracket, When as WhenWord}
-use Rattle.vx_source_types.specs.declared.token.Sign.TheVariants.{OpenParen, CloseParen, OpenBracket, CloseBracket, OpenBrace, Colon, DoubleColon, Dot, Question, Plus, Dollar}
+use Rattle.vx_source_types.specs.declared.expectation.Expected.TheVariants.{Operand, OperandOrParens, Name as AName, FieldValue, FittingType, Function as AFunction, Options, OpenParen as AParen, CloseParen as TheParen, CloseBracket as TheBracket, When as WhenWord}
+use Rattle.vx_source_types.specs.declared.token.Sign.TheVariants.{OpenParen, CloseParen, OpenBracket, CloseBracket, OpenBrace, Colon, DoubleColon, Dot, Question, Plus, Minus, Dollar}
 use Rattle.vx_source_types.specs.Tokens.{Lexeme, word, quoted, number as numeral, point, text, octets, sign, end, invalid, next}
 use Rattle.vx_source_types.specs.Names.{name_at, same_word}
 use Rattle.vx_source_types.specs.Reading.{Goes, more, done, refused}
 use Rattle.vx_source_types.specs.TypeReading.{TypeState, type_start, within}
 use Rattle.vx_source_types.specs.Literals.{typed_literal}
 use Rattle.vx_source_types.specs.ScalarReading.{suffixed}
-use Rattle.vx_source_types.specs.ValueReading.{Drafted, ValueState, value_start, value_step}
+use Rattle.vx_source_types.specs.ValueReading.{Drafted, drafted, ValueState}
 use Rattle.vx_source_grammar.specs.declared.words.Keyword.{Keyword}
 use Rattle.vx_source_grammar.specs.declared.words.Keyword.TheVariants.{Not, Null, True, False, Case, When}
 use Rattle.vx_source_grammar.specs.Keywords.{beside, keyword_of}
@@ -22,7 +22,8 @@ use Rattle.vx_source_grammar.specs.OptionReading.{plain_functions, function_read
 use Rattle.vx_source_grammar.specs.Closing.{called, node_stands}
 use Rattle.vx_source_grammar.specs.Following.{follows, field_goes}
 use Rattle.vx_source_grammar.specs.Joining.{over}
-use Rattle.vx_source_grammar.specs.States.{Callee, own_of, any_of, if_of, condition_part, Frame, in_not, in_binary, in_like, in_lower, in_upper, in_paren, in_call, in_pack, in_cast, in_case, TypeFor, for_literal, for_cast, for_cast_call, operand_due, first_child, at_word, at_vortex, at_id, in_options, children_due, first_packed, packed_value, pack_end, case_due, at_plus, in_value, in_type, ExpressionAnswer, goes, when_read, stands}
+use Rattle.vx_source_grammar.specs.Numbers.{number_begins, value_begins}
+use Rattle.vx_source_grammar.specs.States.{Callee, own_of, any_of, if_of, condition_part, Frame, in_not, in_minus, in_binary, in_like, in_lower, in_upper, in_paren, in_call, in_pack, in_cast, in_case, TypeFor, for_literal, for_cast, for_cast_call, operand_due, first_child, at_word, at_vortex, at_id, in_options, children_due, first_packed, packed_value, pack_end, case_due, at_plus, at_minus, in_value, in_type, ExpressionAnswer, goes, when_read, stands}
 
 -- a node stands there, before the token
 abbrev pub node_before : List Frame → ℕ → Function → List Tree → Lexeme → ExpressionAnswer
@@ -65,25 +66,11 @@ type_goes fs r wanted x (Ok (more s)) = goes fs (in_type wanted s) r
 type_goes fs r wanted x (Ok (done t)) = type_ends fs r wanted t x
 type_goes fs r wanted x (Err e) = Err e
 
--- a value begins
-abbrev pub value_begun : List Frame → ℕ → Lexeme → Result (Goes ValueState Drafted) Expected → ExpressionAnswer
-value_begun fs r x (Ok (more s)) = goes fs (in_value s) r
-value_begun fs r x (Ok (done d)) = refused x Value
-value_begun fs r x (Err e) = Err e
-
-abbrev pub value_begins : List Frame → ℕ → Lexeme → ExpressionAnswer
-value_begins fs r x = value_begun fs r x (value_step (value_start r) x)
-
--- a number with the type behind it, or without
-abbrev pub number_begins : List Frame → ℕ → Lexeme → Option (Option Constant) → ExpressionAnswer
-number_begins fs r x (Some (Some c)) = node_stands fs r (literal c.type c.value) []
-number_begins fs r x (Some None) = Err Number
-number_begins fs r x None = value_begins fs r x
-
 -- ---- operands
 
 -- `not`, which is no operand of a comparison or of arithmetic
 abbrev pub not_begins : List Frame → ℕ → ExpressionAnswer
+not_begins (in_minus z ∷ fs) r = Err OperandOrParens
 not_begins (in_binary op e ∷ fs) r = Err OperandOrParens
 not_begins (in_like negated case_insensitive e ∷ fs) r = Err OperandOrParens
 not_begins (in_lower e ∷ fs) r = Err OperandOrParens
@@ -106,6 +93,7 @@ begins fs r (quoted a) = node_stands fs r (get_item a) (root ∷ [])
 begins fs r (sign Dollar) = stands fs r root
 begins fs r (sign OpenParen) = within r (λ less. goes (in_paren r ∷ fs) operand_due less)
 begins fs r (sign Plus) = goes fs at_plus r
+begins fs r (sign Minus) = goes fs at_minus r
 begins fs r (sign OpenBracket) = value_begins fs r (sign OpenBracket)
 begins fs r (sign OpenBrace) = value_begins fs r (sign OpenBrace)
 begins fs r (numeral negative magnitude suffix) = number_begins fs r (numeral negative magnitude suffix) (suffixed (numeral negative magnitude suffix))
@@ -120,11 +108,19 @@ plus_at fs r (numeral false magnitude suffix) = number_begins fs r (numeral fals
 plus_at fs r (point s) = if next s == 45 then Err Operand else value_begins fs r (point s)
 plus_at fs r x = refused x Operand
 
+-- zero, as a number without a type is read
+abbrev pub zero_read : PlainReading → ℕ → Result Tree Expected
+zero_read plain r = when_read (λ c. over (literal c.type c.value) [] r) (plain (drafted (int (pos 0)) []))
+
+-- an operand behind a `-`, which is taken from zero
+abbrev pub minus_at : PlainReading → List Frame → ℕ → Lexeme → ExpressionAnswer
+minus_at plain fs r x = when_read (λ z. begins (in_minus z ∷ fs) r x) (zero_read plain r)
+
 -- ---- functions by name
 
 -- what is called by a name of its own
 abbrev pub callees : List (List ℕ × Callee)
-callees = (codes "zip", own_of zip) ∷ (codes "coalesce", own_of fill_null) ∷ (codes "fill_null", own_of fill_null) ∷ (codes "mask", own_of mask) ∷ (codes "is_null", own_of is_null) ∷ (codes "is_not_null", own_of is_not_null) ∷ (codes "if", if_of) ∷ []
+callees = (codes "zip", own_of zip) ∷ (codes "coalesce", own_of fill_null) ∷ (codes "fill_null", own_of fill_null) ∷ (codes "mask", own_of mask) ∷ (codes "is_null", own_of is_null) ∷ (codes "is_not_null", own_of is_not_null) ∷ (codes "starts_with", own_of starts_with) ∷ (codes "byte_length", own_of byte_length) ∷ (codes "if", if_of) ∷ []
 
 -- inside the bracket behind a name
 abbrev pub call_begins : List Frame → ℕ → Option Callee → ℕ → ExpressionAnswer

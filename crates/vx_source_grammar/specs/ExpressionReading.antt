@@ -7,10 +7,10 @@ use Rattle.vx_source_types.specs.Reading.{Step}
 use Rattle.vx_source_types.specs.TypeReading.{type_step}
 use Rattle.vx_source_types.specs.Literals.{plain_literal}
 use Rattle.vx_source_types.specs.ValueReading.{value_step}
-use Rattle.vx_source_grammar.specs.Beginning.{PlainReading, begins, plus_at, value_goes, type_goes, word_at, vortex_at, id_at, options_at, children_at, first_child_at, packed_at, first_packed_at, packed_value_at, pack_end_at, case_at}
+use Rattle.vx_source_grammar.specs.Beginning.{PlainReading, begins, plus_at, minus_at, value_goes, type_goes, word_at, vortex_at, id_at, options_at, children_at, first_child_at, packed_at, first_packed_at, packed_value_at, pack_end_at, case_at}
 use Rattle.vx_source_grammar.specs.Closing.{keyword_at}
 use Rattle.vx_source_grammar.specs.Following.{follows, follows_loosely, not_goes, members_at, is_goes, is_not_goes, field_goes, excluded_at, selection_at, named_goes, selection_goes}
-use Rattle.vx_source_grammar.specs.States.{Frame, Mode, operand_due, first_child, tight, loose, at_word, at_vortex, at_id, in_options, children_due, at_dot, at_selection, at_exclusion, selected_name, selected_next, first_packed, packed_due, packed_value, pack_end, at_not, at_is, at_is_not, at_in, case_due, at_plus, in_value, in_type, ExpressionState, ExpressionAnswer}
+use Rattle.vx_source_grammar.specs.States.{Frame, Mode, operand_due, first_child, tight, loose, at_word, at_vortex, at_id, in_options, children_due, at_dot, at_selection, at_exclusion, selected_name, selected_next, first_packed, packed_due, packed_value, pack_end, at_not, at_is, at_is_not, at_in, case_due, at_plus, at_minus, in_value, in_type, ExpressionState, ExpressionAnswer}
 
 -- what a token makes of an expression that is being read, where values without a type are read as that says
 abbrev pub next_by : PlainReading → List Frame → Mode → ℕ → Lexeme → ExpressionAnswer
@@ -38,6 +38,7 @@ next_by plain fs (at_is_not e) r x = is_not_goes fs r e x (keyword_at x)
 next_by plain fs (at_in e) r x = members_at fs r e x
 next_by plain fs case_due r x = case_at fs r x (keyword_at x)
 next_by plain fs at_plus r x = plus_at fs r x
+next_by plain fs at_minus r x = minus_at plain fs r x
 next_by plain fs (in_value s) r x = value_goes plain fs r x (value_step s x)
 next_by plain fs (in_type wanted s) r x = type_goes fs r wanted x (type_step s x)
 

@@ -1,5 +1,5 @@
 -- What follows an operand: a postfix, an operator, or what closes a bracket.
-use Rattle.std.specs.Prelude.{ℕ, Bool, true, false, List, [], ◌∷◌, ◌++◌, Option, Some, None, Result, Ok, Err}
+use Rattle.std.specs.Prelude.{ℕ, ◌==◌, if◌then◌else◌, drop, Bool, true, false, List, [], ◌∷◌, ◌++◌, Option, Some, None, Result, Ok, Err}
 use Rattle.vx_value.specs.Types.{Name, truth, ty, atomic, bool}
 use Rattle.vx_fn.specs.declared.options.FieldSelection.{FieldSelection}
 use Rattle.vx_fn.specs.declared.options.FieldSelection.TheVariants.{Include, Exclude}
@@ -11,15 +11,17 @@ use Rattle.vx_source_types.specs.declared.expectation.Expected.{Expected}
 use Rattle.vx_source_types.specs.declared.expectation.Expected.TheVariants.{Name as AName, OpenParen as AParen, Parens, Like as LikeWord, Null as NullWord, CommaOrCloseBrace}
 use Rattle.vx_source_types.specs.declared.token.Sign.{Sign}
 use Rattle.vx_source_types.specs.declared.token.Sign.TheVariants.{OpenParen, OpenBrace, CloseBrace, Comma, DoubleColon, Dot, Tilde, Equal, DoubleEqual, NotEqual, Less, LessEqual, Greater, GreaterEqual, Plus, Minus, Star, Slash, Percent}
-use Rattle.vx_source_types.specs.Tokens.{Lexeme, word, sign}
+use Rattle.vx_source_types.specs.Tokens.{Lexeme, word, number as numeral, point, sign, next}
 use Rattle.vx_source_types.specs.Names.{name_at}
 use Rattle.vx_source_types.specs.Reading.{refused}
 use Rattle.vx_source_types.specs.TypeReading.{type_start, within}
+use Rattle.vx_source_types.specs.ScalarReading.{suffixed}
 use Rattle.vx_source_grammar.specs.declared.words.Keyword.{Keyword}
 use Rattle.vx_source_grammar.specs.declared.words.Keyword.TheVariants.{And, Or, Not, Like, Ilike, Between, In, Is, Null, True, False}
 use Rattle.vx_source_grammar.specs.Keywords.{keyword_of}
 use Rattle.vx_source_grammar.specs.Closing.{closes, node_stands}
 use Rattle.vx_source_grammar.specs.Joining.{arithmetic_level, over, reduced}
+use Rattle.vx_source_grammar.specs.Numbers.{number_begins}
 use Rattle.vx_source_grammar.specs.States.{Frame, in_chain, in_not, in_binary, in_like, in_lower, in_upper, in_members, for_cast, operand_due, at_dot, at_selection, at_exclusion, selected_name, selected_next, at_not, at_is, at_is_not, at_in, in_type, ExpressionAnswer, goes, when_read, stands_loosely}
 
 -- the comparison of a sign
@@ -122,6 +124,10 @@ sign_goes fs r e x None = closes fs r e x
 abbrev pub arithmetic_goes : List Frame → ℕ → Tree → Arithmetic → ExpressionAnswer
 arithmetic_goes fs r e a = when_read (λ p. goes (in_binary (computes a) p.1 ∷ p.0) operand_due r) (reduced (arithmetic_level a) r fs e)
 
+-- a number behind an operand that it is taken from, without its sign
+abbrev pub less_goes : List Frame → ℕ → Tree → Lexeme → ExpressionAnswer
+less_goes fs r e x = when_read (λ p. number_begins (in_binary (computes Difference) p.1 ∷ p.0) r x (suffixed x)) (reduced (arithmetic_level Difference) r fs e)
+
 -- what follows an operand
 abbrev pub follows : List Frame → ℕ → Tree → Lexeme → ExpressionAnswer
 follows fs r e (sign Dot) = goes fs (at_dot e) r
@@ -133,6 +139,8 @@ follows fs r e (sign Star) = arithmetic_goes fs r e Product
 follows fs r e (sign Slash) = arithmetic_goes fs r e Quotient
 follows fs r e (sign Percent) = arithmetic_goes fs r e Remainder
 follows fs r e (sign s) = sign_goes fs r e (sign s) (comparison_of s)
+follows fs r e (numeral true magnitude suffix) = less_goes fs r e (numeral false magnitude suffix)
+follows fs r e (point s) = if next s == 45 then less_goes fs r e (point (drop 1 s)) else closes fs r e (point s)
 follows fs r e (word w) = word_goes fs r e (word w) (keyword_of w)
 follows fs r e x = closes fs r e x
 

@@ -8,7 +8,7 @@ use Rattle.vx_tree.specs.Views.{trees_from}
 use Rattle.vx_source_types.specs.declared.expectation.Expected.{Expected}
 use Rattle.vx_source_types.specs.declared.expectation.Expected.TheVariants.{Operand}
 use Rattle.vx_source_grammar.specs.Nodes.{node_read}
-use Rattle.vx_source_grammar.specs.States.{Frame, in_chain, in_not, in_binary, in_like, in_upper, when_read}
+use Rattle.vx_source_grammar.specs.States.{Frame, in_chain, in_not, in_minus, in_binary, in_like, in_upper, when_read}
 
 -- how tightly arithmetic binds: products, quotients and remainders more tightly than sums and differences
 abbrev pub arithmetic_level : Arithmetic → ℕ
@@ -18,12 +18,13 @@ arithmetic_level Product = 6
 arithmetic_level Quotient = 6
 arithmetic_level Remainder = 6
 
--- how tightly what waits for its last operand binds, the loosest first: or, and, not, comparisons, arithmetic; 0 of a bracket, and
--- of what waits for more
+-- how tightly what waits for its last operand binds, the loosest first: or, and, not, comparisons, arithmetic, a minus before an
+-- operand; 0 of a bracket, and of what waits for more
 abbrev pub level_of : Frame → ℕ
 level_of (in_chain or_else es) = 1
 level_of (in_chain op es) = 2
 level_of in_not = 3
+level_of (in_minus z) = 7
 level_of (in_binary (computes a) e) = arithmetic_level a
 level_of (in_binary op e) = 4
 level_of (in_like negated case_insensitive e) = 4
@@ -66,6 +67,7 @@ among e r ds = when_read (chained or_else r) (equal_to e r ds)
 abbrev pub joined : ℕ → Frame → Tree → Result Tree Expected
 joined r (in_chain op es) e = chained op r (es ++ e ∷ [])
 joined r in_not e = over logical_not (e ∷ []) r
+joined r (in_minus z) e = over (binary (computes Difference)) (z ∷ e ∷ []) r
 joined r (in_binary op lhs) e = over (binary op) (lhs ∷ e ∷ []) r
 joined r (in_like negated case_insensitive lhs) e = over (like negated case_insensitive) (lhs ∷ e ∷ []) r
 joined r (in_upper lower_strict upper_strict array lower) e = over (between lower_strict upper_strict) (array ∷ lower ∷ e ∷ []) r

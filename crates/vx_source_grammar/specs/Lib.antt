@@ -4,6 +4,7 @@ pub mod OptionReading
 pub mod States
 pub mod Joining
 pub mod Closing
+pub mod Numbers
 pub mod Following
 pub mod Beginning
 pub mod ExpressionReading

@@ -26,6 +26,7 @@ pub data CasePart : Type 0 where
 pub data Frame : Type 0 where
   in_chain : Operation → List Tree → Frame
   in_not : Frame
+  in_minus : Tree → Frame
   in_binary : Operation → Tree → Frame
   in_like : (negated case_insensitive : Bool) → Tree → Frame
   in_lower : Tree → Frame
@@ -47,7 +48,7 @@ pub data TypeFor : Type 0 where
 -- a word, `vortex.`, and a name behind that; more options of a function, with so many brackets open in them and the nesting
 -- that is allowed there; the children of a function; the name of a field; a selection, its names, and what is between them; the names and the values of a struct,
 -- and what follows it; what follows `not`, `is`, `is not` and `in` behind an operand; the first `when`; a number behind a `+`;
--- more of a value; more of a type
+-- what stands behind a `-`; more of a value; more of a type
 pub data Mode : Type 0 where
   operand_due : Mode
   first_child : Mode
@@ -73,6 +74,7 @@ pub data Mode : Type 0 where
   at_in : Tree → Mode
   case_due : Mode
   at_plus : Mode
+  at_minus : Mode
   in_value : ValueState → Mode
   in_type : TypeFor → TypeState → Mode
 

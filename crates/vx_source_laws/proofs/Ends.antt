@@ -13,11 +13,11 @@ use Rattle.vx_source_types.specs.Literals.{typed_literal}
 use Rattle.vx_source_types.specs.ScalarReading.{in_value as in_scalar_value, value_after}
 use Rattle.vx_source_types.specs.ValueReading.{Drafted, ValueState, value_step}
 use Rattle.vx_source_types.proofs.ScalarEnds.{end_stops as scalar_stops}
-use Rattle.vx_source_grammar.specs.Beginning.{PlainReading, fitting, field_read, literal_before, node_before, type_goes, value_goes}
+use Rattle.vx_source_grammar.specs.Beginning.{PlainReading, fitting, field_read, literal_before, zero_read, node_before, type_goes, value_goes}
 use Rattle.vx_source_grammar.specs.Closing.{bracket_goes, closes}
 use Rattle.vx_source_grammar.specs.ExpressionReading.{next_by, step_by}
 use Rattle.vx_source_grammar.specs.Joining.{over, reduced}
-use Rattle.vx_source_grammar.specs.States.{condition_part, value_part, else_part, Frame, in_chain, in_not, in_binary, in_like, in_lower, in_upper, in_paren, in_members, in_call, in_pack, in_cast, in_case, TypeFor, for_literal, for_cast, for_cast_call, Mode, operand_due, first_child, tight, loose, at_word, at_vortex, at_id, in_options, children_due, at_dot, at_selection, at_exclusion, selected_name, selected_next, first_packed, packed_due, packed_value, pack_end, at_not, at_is, at_is_not, at_in, case_due, at_plus, in_value, in_type, ExpressionState, ExpressionAnswer, when_read}
+use Rattle.vx_source_grammar.specs.States.{condition_part, value_part, else_part, Frame, in_chain, in_not, in_minus, in_binary, in_like, in_lower, in_upper, in_paren, in_members, in_call, in_pack, in_cast, in_case, TypeFor, for_literal, for_cast, for_cast_call, Mode, operand_due, first_child, tight, loose, at_word, at_vortex, at_id, in_options, children_due, at_dot, at_selection, at_exclusion, selected_name, selected_next, first_packed, packed_due, packed_value, pack_end, at_not, at_is, at_is_not, at_in, case_due, at_plus, at_minus, in_value, in_type, ExpressionState, ExpressionAnswer, when_read}
 
 -- the answer isn't that more follows
 abbrev Ends : ExpressionAnswer → Type 0
@@ -41,6 +41,7 @@ bracket_ends r (in_case value_part es outside ∷ fs) e = λ u q. (cc)
 bracket_ends r (in_case else_part es outside ∷ fs) e = λ u q. (cc)
 bracket_ends r (in_chain op es ∷ fs) e = λ u q. (cc)
 bracket_ends r (in_not ∷ fs) e = λ u q. (cc)
+bracket_ends r (in_minus z ∷ fs) e = λ u q. (cc)
 bracket_ends r (in_binary op lhs ∷ fs) e = λ u q. (cc)
 bracket_ends r (in_like negated case_insensitive lhs ∷ fs) e = λ u q. (cc)
 bracket_ends r (in_lower array ∷ fs) e = λ u q. (cc)
@@ -100,6 +101,7 @@ next_ends plain fs (at_is_not e) r = λ u q. (cc)
 next_ends plain fs (at_in e) r = λ u q. (cc)
 next_ends plain fs case_due r = λ u q. (cc)
 next_ends plain fs at_plus r = λ u q. (cc)
+next_ends plain fs at_minus r = read_ends _ (zero_read plain r) (λ z u q. (cc))
 next_ends plain fs (in_value s) r = value_ended plain fs r (value_step s end) (value_stops s)
 next_ends plain fs (in_type wanted s) r = type_ended fs r wanted (type_step s end) (type_stops s)
 

@@ -3,7 +3,7 @@ use Rattle.std.proofs.Common.{◌≡◌, ℕ, zero, suc, ◌≤◌, true, List, 
 use Rattle.std.specs.Prelude.{codes}
 use Rattle.vx_dtype.specs.Texts.{with_commas}
 use Rattle.vx_value.specs.Types.{Name}
-use Rattle.vx_fn.specs.Functions.{Function, case_when, get_item, literal, pack, select, fill_null, zip, binary, logical_not, between, like, is_null, is_not_null, mask, cast, id_of}
+use Rattle.vx_fn.specs.Functions.{Function, case_when, get_item, literal, pack, select, fill_null, zip, binary, logical_not, between, like, is_null, is_not_null, mask, cast, starts_with, byte_length, id_of}
 use Rattle.vx_tree.specs.Trees.{call, Trees}
 use Rattle.vx_source_types.proofs.FirstSigns.{first_open_paren, first_open_bracket, first_close_bracket}
 use Rattle.vx_source_types.proofs.FirstTokens.{first_word}
@@ -43,6 +43,8 @@ name_of is_null = codes "is_null"
 name_of is_not_null = codes "is_not_null"
 name_of mask = codes "mask"
 name_of (cast t) = codes "cast"
+name_of starts_with = codes "starts_with"
+name_of byte_length = codes "byte_length"
 
 -- it is a word, behind `vortex.` in the function's name
 named_so : (f : Function) → (id_of f ≡ codes "vortex." ++ name_of f) × (is_plain (name_of f) ≡ true)
@@ -61,6 +63,8 @@ named_so is_null = (refl, refl)
 named_so is_not_null = (refl, refl)
 named_so mask = (refl, refl)
 named_so (cast t) = (refl, refl)
+named_so starts_with = (refl, refl)
+named_so byte_length = (refl, refl)
 
 -- ---- options
 
@@ -79,6 +83,8 @@ options_again (like negated case_insensitive) room rest u h = like_options negat
 options_again is_null room rest u h = record { tokens = []; collected = no_token; read = refl }
 options_again is_not_null room rest u h = record { tokens = []; collected = no_token; read = refl }
 options_again mask room rest u h = record { tokens = []; collected = no_token; read = refl }
+options_again starts_with room rest u h = record { tokens = []; collected = no_token; read = refl }
+options_again byte_length room rest u h = record { tokens = []; collected = no_token; read = refl }
 options_again (cast t) room rest u h = cast_options t room rest u (omega arith)
 
 -- ---- the node

@@ -31,7 +31,8 @@ use Rattle.vx_source_types.specs.ScalarPrintable.{value_nesting, IsSpelledValue}
 use Rattle.vx_source_types.specs.Untyped.{untyped}
 use Rattle.vx_source_types.specs.ValueReading.{Drafted, drafted, ValueState, whole_value, simple_begins, value_start, value_step, word_value}
 use Rattle.vx_source_types.proofs.ValuesAgain.{Follows, names_after, value_again, fits_small, fits_below_zero}
-use Rattle.vx_source_grammar.specs.Beginning.{begins, word_begins, value_begun, number_begins, first_child_at, literal_before, value_ends, value_goes}
+use Rattle.vx_source_grammar.specs.Beginning.{begins, word_begins, first_child_at, literal_before, value_ends, value_goes}
+use Rattle.vx_source_grammar.specs.Numbers.{value_begun, number_begins}
 use Rattle.vx_source_grammar.specs.Following.{follows}
 use Rattle.vx_source_grammar.specs.ExpressionReading.{expression_step}
 use Rattle.vx_source_grammar.specs.Keywords.{operator_words, value_words, case_words, either, keyword_of}

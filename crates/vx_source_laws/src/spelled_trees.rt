@@ -56,7 +56,9 @@ pub fn function_is_spelled(scalar_fn: &ScalarFnRef)
         | ScalarFnRef::Like(_)
         | ScalarFnRef::IsNull(_)
         | ScalarFnRef::IsNotNull(_)
-        | ScalarFnRef::Mask(_) => {}
+        | ScalarFnRef::Mask(_)
+        | ScalarFnRef::StartsWith(_)
+        | ScalarFnRef::ByteLength(_) => {}
     }
 }
 

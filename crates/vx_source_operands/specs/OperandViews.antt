@@ -18,7 +18,7 @@ use Rattle.vx_source_operands.specs.declared.frame.CasePart.{CasePart}
 use Rattle.vx_source_operands.specs.declared.frame.CasePart.TheVariants.{Condition, Value as ItsValue, Else}
 use Rattle.vx_source_operands.specs.declared.frame.OpenRange.{OpenRange}
 use Rattle.vx_source_operands.specs.declared.frame.Frame.{Frame}
-use Rattle.vx_source_operands.specs.declared.frame.Frame.TheVariants.{Chain, Not, Binary, Like, Lower, Upper, Paren, Members, Call, Pack, Cast, Case}
+use Rattle.vx_source_operands.specs.declared.frame.Frame.TheVariants.{Chain, Not, Minus, Binary, Like, Lower, Upper, Paren, Members, Call, Pack, Cast, Case}
 use Rattle.vx_source_operands.specs.declared.state.TypeFor.{TypeFor}
 use Rattle.vx_source_operands.specs.declared.state.TypeFor.TheVariants.{Literal as ForLiteral, Cast as ForCast, CastCall as ForCastCall}
 use Rattle.vx_source_operands.specs.declared.state.OptionsSoFar.{OptionsSoFar}
@@ -58,6 +58,7 @@ range_of r = reading.in_upper (is_strict r.lower_strict) (is_strict r.upper_stri
 abbrev pub frame_of : Frame → reading.Frame
 frame_of (Chain op os) = reading.in_chain (operation_of op) (operands_of os.items)
 frame_of (Not start) = reading.in_not
+frame_of (Minus o) = reading.in_minus (operand_of o)
 frame_of (Binary op o) = reading.in_binary (operation_of op) (operand_of o)
 frame_of (Like options o) = reading.in_like options.negated options.case_insensitive (operand_of o)
 frame_of (Lower o) = reading.in_lower (operand_of o)
@@ -106,6 +107,7 @@ mode_of (modes.IsNot o) = reading.at_is_not (operand_of o)
 mode_of (modes.In o) = reading.at_in (operand_of o)
 mode_of modes.Case = reading.case_due
 mode_of (modes.Plus start) = reading.at_plus
+mode_of (modes.Minus start) = reading.at_minus
 mode_of (modes.Value r start end) = reading.in_value (values.reader_of r.value)
 mode_of (modes.Type wanted r end) = reading.in_type (type_for wanted.value) (types.reader_of r.value)
 

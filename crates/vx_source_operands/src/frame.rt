@@ -64,6 +64,8 @@ pub enum Frame {
     Chain(Operator, Vec<Operand>),
     /// `not`, which begins at that byte.
     Not(usize),
+    /// A `-` before an operand, and the zero that the operand is taken from.
+    Minus(Operand),
     /// A comparison or arithmetic behind the left operand.
     Binary(Operator, Operand),
     /// `like` behind its text.
@@ -102,6 +104,8 @@ pub enum Level {
     Sum,
     /// `*`, `/` and `%`
     Product,
+    /// `-` before an operand.
+    Minus,
 }
 
 impl Level {
@@ -115,6 +119,7 @@ impl Level {
             Level::Comparison => 4,
             Level::Sum => 5,
             Level::Product => 6,
+            Level::Minus => 7,
         }
     }
 }
@@ -175,6 +180,7 @@ impl Frame {
         match self {
             Frame::Chain(operator, _) => Some(levels_of(*operator).in_chain),
             Frame::Not(_) => Some(Level::Not),
+            Frame::Minus(_) => Some(Level::Minus),
             Frame::Binary(operator, _) => Some(levels_of(*operator).between),
             Frame::Like(_, _) | Frame::Upper(_) => Some(Level::Comparison),
             Frame::Lower(_)

@@ -24,6 +24,10 @@ pub fn plain_function(name: &FieldName) -> Option<ScalarFnRef>
         Some(ScalarFnRef::Mask(EmptyOptions))
     } else if is_word(name, "zip") {
         Some(ScalarFnRef::Zip(EmptyOptions))
+    } else if is_word(name, "starts_with") {
+        Some(ScalarFnRef::StartsWith(EmptyOptions))
+    } else if is_word(name, "byte_length") {
+        Some(ScalarFnRef::ByteLength(EmptyOptions))
     } else {
         None
     }

@@ -50,6 +50,9 @@ fn join(context: Context, frame: Frame, operand: Operand) -> Result<Operand, Par
             let function = ScalarFnRef::Not(EmptyOptions);
             node_over(context, function, operand, bytes)
         }
+        Frame::Minus(zero) => {
+            node_between(context, ScalarFnRef::Binary(Operator::Sub), zero, operand)
+        }
         Frame::Binary(operator, lhs) => {
             let function = ScalarFnRef::Binary(operator);
             node_between(context, function, lhs, operand)

@@ -102,6 +102,8 @@ pub enum Mode {
     Case,
     /// A `+` with which an operand begins, at that byte: a number is due.
     Plus(usize),
+    /// A `-` with which an operand begins, at that byte: what is taken from zero is due.
+    Minus(usize),
     /// A value that begins at that byte and has ended at the other so far.
     Value(Box<ValueReader>, usize, usize),
     /// A type, the last token of which ended at that byte.

@@ -3,7 +3,7 @@ use Rattle.std.specs.Prelude.{ℕ, suc, ◌*◌, ◌%◌, ◌==◌, Bool, true, 
 use Rattle.std.specs.Option.{is_some}
 use Rattle.vx_value.specs.Columns.{Constant, constant}
 use Rattle.vx_value.specs.Equality.{equal_type}
-use Rattle.vx_fn.specs.Functions.{Function, case_when, get_item, literal, pack, select, fill_null, zip, Operation, compares, and_also, or_else, computes, binary, logical_not, between, like, is_null, is_not_null, mask, cast}
+use Rattle.vx_fn.specs.Functions.{Function, case_when, get_item, literal, pack, select, fill_null, zip, Operation, compares, and_also, or_else, computes, binary, logical_not, between, like, is_null, is_not_null, mask, cast, starts_with, byte_length}
 use Rattle.vx_tree.specs.Nodes.{children_of, function_at, tree_at}
 use Rattle.vx_tree.specs.Trees.{Tree, root, call, Trees, no_tree, tree}
 
@@ -30,6 +30,8 @@ is_peer is_null i = false
 is_peer is_not_null i = false
 is_peer mask i = false
 is_peer (cast t) i = false
+is_peer starts_with i = false
+is_peer byte_length i = false
 
 -- whether the operation's value has the type of its operands
 abbrev pub is_arithmetic : Operation → Bool
@@ -55,6 +57,8 @@ has_type_of_peers is_null = false
 has_type_of_peers is_not_null = false
 has_type_of_peers mask = false
 has_type_of_peers (cast t) = false
+has_type_of_peers starts_with = false
+has_type_of_peers byte_length = false
 
 -- ---- what was written without a type
 

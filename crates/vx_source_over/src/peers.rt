@@ -65,7 +65,9 @@ pub(crate) fn is_peer(scalar_fn: &ScalarFnRef, i: usize) -> bool
         | ScalarFnRef::IsNull(_)
         | ScalarFnRef::IsNotNull(_)
         | ScalarFnRef::Mask(_)
-        | ScalarFnRef::Cast(_) => false,
+        | ScalarFnRef::Cast(_)
+        | ScalarFnRef::StartsWith(_)
+        | ScalarFnRef::ByteLength(_) => false,
     }
 }
 
@@ -93,7 +95,9 @@ pub(crate) fn has_type_of_peers(scalar_fn: &ScalarFnRef) -> bool
         | ScalarFnRef::IsNull(_)
         | ScalarFnRef::IsNotNull(_)
         | ScalarFnRef::Mask(_)
-        | ScalarFnRef::Cast(_) => false,
+        | ScalarFnRef::Cast(_)
+        | ScalarFnRef::StartsWith(_)
+        | ScalarFnRef::ByteLength(_) => false,
     }
 }
 

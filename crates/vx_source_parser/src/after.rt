@@ -10,6 +10,7 @@ use crate::close::close;
 use crate::comparisons::{
     after_arithmetic, after_comparison, between, comparable, like, open_like,
 };
+use crate::numbers::after_number;
 use crate::predicates::{null_test, truth_test};
 use crate::steps::{keyword, negated, pending};
 use vx_fn::{EmptyOptions, ScalarFnRef};
@@ -47,6 +48,8 @@ pub fn after_tight(
             Some(operator) => after_comparison(context, frames, operand, operator),
             None => close(context, frames, operand),
         },
+        Token::Number { .. } => after_number(context, frames, operand),
+        Token::Point(_) => after_number(context, frames, operand),
         _ => after_word(context, frames, operand),
     }
 }

@@ -4,21 +4,25 @@ ghost use Rattle.vx_source_types.specs.Tokens.{next};
 ghost use Rattle.vx_source_types.specs.Views.{lexeme_of};
 ghost use Rattle.vx_source_types.specs.TypeReading.{within};
 ghost use Rattle.vx_source_types.specs.ScalarReading as scalars;
-ghost use Rattle.vx_source_grammar.specs.Beginning.{begins, field_read, not_begins, number_begins, plus_at, value_begins};
+ghost use Rattle.vx_source_grammar.specs.Beginning.{begins, field_read, minus_at, not_begins, plus_at, zero_read};
+ghost use Rattle.vx_source_grammar.specs.Numbers.{number_begins, value_begins};
 ghost use Rattle.vx_source_grammar.specs.States.{condition_part, in_case, in_paren, operand_due, case_due, goes};
 ghost use Rattle.vx_source_operands.specs.Places.{ReadsUpTo};
+ghost use Rattle.vx_source_operands.specs.PlainViews.{plain_by};
 ghost use Rattle.vx_source_operands.specs.OperandViews.{frame_of, frames_of, operand_of, step_of};
 
 use crate::postfix::field;
 use crate::values::literal;
 use vx_source_grammar::{Keyword, as_keyword};
 use vx_source_operands::{
-    Bracket, CasePart, Context, ExpressionStep, Frame, Mode, Operand, begun_at, more, root, tight,
+    Bracket, CasePart, Context, ExpressionStep, Frame, Mode, Operand, PlainValues, begun_at, more,
+    root, tight,
 };
 use vx_source_types::{
-    Expected, ParseError, Sign, Token, ValueReader, ValueStep, expected, inside, refusal, suffixed,
+    Draft, Expected, ParseError, Sign, Token, ValueReader, ValueStep, expected, inside, refusal,
+    suffixed,
 };
-use vx_types::FieldName;
+use vx_types::{FieldName, Value};
 
 // What begins with the token, where an operand is due.
 pub(crate) fn begin(context: Context, frames: Vec<Frame>) -> Result<ExpressionStep, ParseError>
@@ -49,6 +53,7 @@ pub(crate) fn begin(context: Context, frames: Vec<Frame>) -> Result<ExpressionSt
         }
         Token::Sign(Sign::OpenParen) => begin_paren(context, frames),
         Token::Sign(Sign::Plus) => Ok(more(frames, Mode::Plus(found.at), context.room)),
+        Token::Sign(Sign::Minus) => Ok(more(frames, Mode::Minus(found.at), context.room)),
         Token::Number { .. } => begin_number(context, frames, found.at),
         Token::Point(_)
         | Token::Text(_)
@@ -104,9 +109,11 @@ fn begin_not_in(
     ensures reads { ReadsUpTo context.entry.found.now.at step_of result (not_begins (frame_of frame ∷ frames_of frames.items) context.entry.room) }
 {
     match &frame {
-        Frame::Binary(_, _) | Frame::Like(_, _) | Frame::Lower(_) | Frame::Upper(_) => {
-            Err(expected(context.found, Expected::OperandOrParens))
-        }
+        Frame::Minus(_)
+        | Frame::Binary(_, _)
+        | Frame::Like(_, _)
+        | Frame::Lower(_)
+        | Frame::Upper(_) => Err(expected(context.found, Expected::OperandOrParens)),
         _ => {
             frames.push(frame)?;
             frames.push(Frame::Not(context.found.at))?;
@@ -134,7 +141,7 @@ fn begin_value(
 }
 
 // A number with the type behind it, or without, that begins at that byte.
-fn begin_number(
+pub(crate) fn begin_number(
     context: Context,
     frames: Vec<Frame>,
     start: usize,
@@ -172,8 +179,32 @@ pub(crate) fn begin_plus(
     }
 }
 
+/// The operand behind a `-` at that byte, which is taken from zero.
+pub(crate) fn begin_minus(
+    context: Context,
+    plain: PlainValues,
+    mut frames: Vec<Frame>,
+    start: usize,
+) -> Result<ExpressionStep, ParseError>
+    ensures reads { ReadsUpTo context.entry.found.now.at step_of result (minus_at (plain_by plain) (frames_of frames.items) context.entry.room (lexeme_of context.entry.found.now.token)) }
+{
+    frames.push(Frame::Minus(zero(context, plain, start)?))?;
+    begin(context, frames)
+}
+
+// The zero that stands for the `-` at that byte, of the type of a number without one.
+fn zero(context: Context, plain: PlainValues, start: usize) -> Result<Operand, ParseError>
+    ensures reads { ReadsUpTo context.entry.found.now.at operand_of result (zero_read (plain_by plain) context.entry.room) }
+{
+    let draft = Draft::Value(Value::Int(0), Vec::new(context.alloc));
+    match plain.scalar(draft) {
+        Ok(scalar) => literal(context, scalar, (start, start)),
+        Err(wanted) => Err(begun_at(start, context.found, wanted)),
+    }
+}
+
 // Whether the digits stand behind a minus.
-fn is_below_zero(digits: &str) -> bool
+pub(crate) fn is_below_zero(digits: &str) -> bool
     ensures { result ≡ (next digits.now == 45) }
 {
     matches!(digits.as_bytes(), [b'-', ..])

@@ -95,6 +95,10 @@ fn callee(name: &FieldName) -> Option<Callee>
         Some(Callee::Own(ScalarFnRef::IsNull(EmptyOptions)))
     } else if is_word(name, "is_not_null") {
         Some(Callee::Own(ScalarFnRef::IsNotNull(EmptyOptions)))
+    } else if is_word(name, "starts_with") {
+        Some(Callee::Own(ScalarFnRef::StartsWith(EmptyOptions)))
+    } else if is_word(name, "byte_length") {
+        Some(Callee::Own(ScalarFnRef::ByteLength(EmptyOptions)))
     } else if is_word(name, "if") {
         Some(Callee::If)
     } else {

@@ -10,6 +10,7 @@ mod chains;
 mod close;
 mod comparisons;
 mod members;
+mod numbers;
 mod postfix;
 mod predicates;
 mod step;

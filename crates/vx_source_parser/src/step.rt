@@ -6,7 +6,7 @@ ghost use Rattle.vx_source_operands.specs.PlainViews.{plain_by};
 ghost use Rattle.vx_source_operands.specs.OperandViews.{reader_of, step_of};
 
 use crate::after::{after_is, after_is_not, after_loose, after_not, after_tight};
-use crate::begin::{begin, begin_plus};
+use crate::begin::{begin, begin_minus, begin_plus};
 use crate::calls::{first_child, first_packed, pack_end, packed, packed_value};
 use crate::members::members;
 use crate::postfix::{dot, exclusion, selection, selection_name, selection_next};
@@ -60,6 +60,7 @@ pub(crate) fn step(
         Mode::In(e) => members(context, frames, e),
         Mode::Case => case(context, frames),
         Mode::Plus(start) => begin_plus(context, frames, start),
+        Mode::Minus(start) => begin_minus(context, plain, frames, start),
         Mode::Value(reader, start, end) => value(context, plain, frames, reader, (start, end)),
         Mode::Type(wanted, reader, end) => read_type(context, frames, wanted, reader, end),
     }

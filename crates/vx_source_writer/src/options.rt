@@ -28,7 +28,9 @@ pub(crate) fn write_options<W: Write>(scalar_fn: &ScalarFnRef, f: &mut Formatter
         | ScalarFnRef::Not(options)
         | ScalarFnRef::IsNull(options)
         | ScalarFnRef::IsNotNull(options)
-        | ScalarFnRef::Mask(options) => options.fmt(f),
+        | ScalarFnRef::Mask(options)
+        | ScalarFnRef::StartsWith(options)
+        | ScalarFnRef::ByteLength(options) => options.fmt(f),
     }
 }
 
