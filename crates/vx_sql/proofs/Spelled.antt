@@ -1,9 +1,10 @@
 -- Characters inside texts, one after another.
-use Rattle.std.proofs.Common.{◌≡◌, ℕ, List, [], ◌∷◌, ◌++◌, codes, sym, ap, ◌∙◌, append_assoc, append-nil}
+use Rattle.std.proofs.Common.{◌≡◌, ℕ, List, [], ◌∷◌, ◌++◌, codes, sym, ap, ◌∙◌, append_assoc, append-nil, map}
 use Rattle.std.specs.List.{flat_map}
 use Rattle.std.specs.Prelude.{encode_utf8_all}
 use Rattle.std.proofs.lemmas.Grind.{flat_map-append}
 use Rattle.std.proofs.lemmas.Str.{encodes-append}
+use Rattle.vx_fn.specs.Values.{Part, any_text, just}
 use Rattle.vx_sql.specs.declared.quotes.Quoting.{Quoting}
 use Rattle.vx_sql.specs.Quotes.{inside}
 use Rattle.vx_sql.specs.Patterns.{enclosed}
@@ -45,3 +46,8 @@ written-enclosed_pair q c d =
 pub written-pair : (q : Quoting) (c d : ℕ) → encode_utf8_all (inside q c) ++ encode_utf8_all (inside q d) ≡ written q (c ∷ d ∷ [])
 written-pair q c d =
     ap (λ xs. encode_utf8_all (inside q c) ++ encode_utf8_all xs) (sym (append-nil (inside q d))) ∙ sym (encodes-append (inside q c) (inside q d ++ []))
+
+-- ---- what begins with some characters
+
+abbrev pub beginning_of : List ℕ → List Part
+beginning_of cs = map just cs ++ any_text ∷ []

@@ -1,5 +1,5 @@
 -- The patterns of LIKE as the engines spell them.
-use Rattle.std.specs.Prelude.{ℕ, Bool, true, false, ◌==◌, ◌||◌, ◌&&◌, List, [], ◌∷◌, if◌then◌else◌}
+use Rattle.std.specs.Prelude.{ℕ, Bool, true, false, ◌==◌, ◌||◌, ◌&&◌, List, [], ◌∷◌, ◌++◌, if◌then◌else◌, chars, map}
 use Rattle.std.specs.Char.{is_ascii_lowercase, to_ascii_uppercase}
 use Rattle.std.specs.List.{flat_map}
 use Rattle.vx_fn.specs.Values.{Part, any_text, any_one, just}
@@ -73,3 +73,11 @@ parts_spelled d ignore_case ps = flat_map (part_spelled d ignore_case) ps
 -- a pattern as a text between quotes
 abbrev pub pattern_sql : Dialect → Bool → List ℕ → List ℕ
 pattern_sql d ignore_case p = quoted (quoting_of d p) (parts_spelled d ignore_case (spelled_by ignore_case p))
+
+-- the parts of a pattern of what begins with a text: its characters, and then any text
+abbrev pub beginning_parts : List ℕ → List Part
+beginning_parts p = map just (chars p) ++ any_text ∷ []
+
+-- that pattern as a text between quotes
+abbrev pub beginning_sql : Dialect → List ℕ → List ℕ
+beginning_sql d p = quoted (quoting_of d p) (parts_spelled d false (beginning_parts p))

@@ -1,5 +1,5 @@
 -- Why a node has no SQL text.
-use Rattle.std.specs.Prelude.{ℕ, ℤ, pos, Bool, true, false, not, ◌==◌, ◌&&◌, List, [], ◌∷◌, Option, Some, None, length, if◌then◌else◌, nat_lt}
+use Rattle.std.specs.Prelude.{ℕ, ℤ, pos, Bool, false, not, ◌==◌, ◌&&◌, List, [], ◌∷◌, Option, Some, None, length, if◌then◌else◌, nat_lt}
 use Rattle.std.specs.Int.{int_div_euclid}
 use Rattle.std.specs.List.{list_any, count_by}
 use Rattle.std.specs.Option.{option_or, is_some}
@@ -10,7 +10,7 @@ use Rattle.vx_literals.specs.Instants.{units_a_day}
 use Rattle.vx_source_types.specs.Names.{same_word}
 use Rattle.vx_value.specs.Types.{Name, number, floating, date, timestamp, LogicalType, ty, atomic, Datum, null, bool, int, float, utf8, bytes, list_of, struct_of}
 use Rattle.vx_floats.specs.declared.arithmetic.Arithmetic.{Arithmetic}
-use Rattle.vx_fn.specs.Functions.{Function, case_when, get_item, literal, pack, select, fill_null, zip, Operation, compares, and_also, or_else, computes, binary, logical_not, between, like, is_null, is_not_null, mask, cast, arity_of, is_atomic}
+use Rattle.vx_fn.specs.Functions.{Function, case_when, get_item, literal, pack, select, fill_null, zip, Operation, compares, and_also, or_else, computes, binary, logical_not, between, like, is_null, is_not_null, mask, cast, starts_with, byte_length, arity_of, is_atomic}
 use Rattle.vx_tree.specs.Nodes.{bound_at, bound_count_of}
 use Rattle.vx_tree.specs.Trees.{BoundTrees}
 use Rattle.vx_sql.specs.declared.dialect.Dialect.{Dialect}
@@ -93,7 +93,7 @@ pack_reason d names = if makes_structs d && not (length names == 0) then names_r
 abbrev pub fill_reason : BoundTrees → Option Reason
 fill_reason bs = because (not (has_atomic_first bs && passes (λ b. is_value (literal_in b)) (bound_at bs 1))) FillNotLiteral
 
--- the parts of a pattern are known where it is a literal
+-- the parts of a pattern, or of a beginning, are known where it is a literal
 abbrev pub pattern_reason : BoundTrees → Option Reason
 pattern_reason bs = because (not (passes (λ b. is_some (literal_in b)) (bound_at bs 1))) PatternNotLiteral
 
@@ -129,6 +129,8 @@ function_reason d t is_null bs = None
 function_reason d t is_not_null bs = None
 function_reason d t mask bs = None
 function_reason d t (cast u) bs = None
+function_reason d t starts_with bs = pattern_reason bs
+function_reason d t byte_length bs = None
 
 -- why values of the type have no text: the engine orders floating-point numbers otherwise, or has no such values
 abbrev pub type_reason : Dialect → LogicalType → Option Reason

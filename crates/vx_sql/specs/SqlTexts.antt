@@ -3,7 +3,7 @@ use Rattle.std.specs.Prelude.{ℕ, Bool, true, false, ◌&&◌, ◌||◌, ◌==�
 use Rattle.vx_value.specs.Columns.{Constant}
 use Rattle.vx_value.specs.Types.{Name, number, LogicalType, ty, atomic, Datum, utf8}
 use Rattle.vx_floats.specs.declared.arithmetic.Arithmetic.{Arithmetic}
-use Rattle.vx_fn.specs.Functions.{equal, not_equal, greater, greater_or_equal, less, less_or_equal, Comparison, Operation, compares, and_also, or_else, computes, Function, case_when, get_item, literal, pack, select, fill_null, zip, binary, logical_not, between, like, is_null, is_not_null, mask, cast, arity_of}
+use Rattle.vx_fn.specs.Functions.{equal, not_equal, greater, greater_or_equal, less, less_or_equal, Comparison, Operation, compares, and_also, or_else, computes, Function, case_when, get_item, literal, pack, select, fill_null, zip, binary, logical_not, between, like, is_null, is_not_null, mask, cast, starts_with, byte_length, arity_of}
 use Rattle.vx_fn.specs.Texts.{with_commas, pairs_sql, operator_sql, bound_text}
 use Rattle.vx_tree.specs.Nodes.{bound_at, bound_count_of}
 use Rattle.vx_tree.specs.Trees.{BoundTree, scope, node, BoundTrees, no_bound, bound}
@@ -15,7 +15,7 @@ use Rattle.vx_sql.specs.declared.text.Children.{Children}
 use Rattle.vx_sql.specs.Children.{is_row, has_text_first, has_string_first, has_struct_first, literal_in, admits_null_at}
 use Rattle.vx_sql.specs.Dialects.{collation}
 use Rattle.vx_sql.specs.Quotes.{name_sql, text_sql}
-use Rattle.vx_sql.specs.Patterns.{has_globs, pattern_sql}
+use Rattle.vx_sql.specs.Patterns.{has_globs, pattern_sql, beginning_sql}
 use Rattle.vx_sql.specs.Literals.{literal_sql, null_sql}
 use Rattle.vx_sql.specs.Calculations.{arithmetic_sql}
 
@@ -181,6 +181,43 @@ abbrev pub match_sql : Dialect → Bool → Bool → List ℕ → List ℕ → L
 match_sql d negated ignore_case c pattern =
     before_matched d ignore_case ++ (c ++ (behind_matched d ignore_case ++ (like_sign d negated ++ (pattern ++ like_end d))))
 
+-- the pattern of what begins with a literal, which may be null
+abbrev pub value_beginning : Dialect → LogicalType → Datum → List ℕ
+value_beginning d t (utf8 p) = beginning_sql d p
+value_beginning d t _ = null_sql d t
+
+abbrev pub literal_beginning : Dialect → Option Constant → List ℕ
+literal_beginning d None = []
+literal_beginning d (Some c) = value_beginning d c.type c.value
+
+-- the pattern of what begins with the second child
+abbrev pub beginning_of : Dialect → Option BoundTree → List ℕ
+beginning_of d None = []
+beginning_of d (Some b) = literal_beginning d (literal_in b)
+
+abbrev pub second_beginning : Dialect → BoundTrees → List ℕ
+second_beginning d bs = beginning_of d (bound_at bs 1)
+
+-- ---- lengths
+
+-- what stands before a text whose bytes are counted, and behind it
+abbrev pub before_length : Dialect → List ℕ
+before_length Postgres = codes "CAST(octet_length("
+before_length Sqlite = codes "length(CAST("
+before_length DuckDb = codes "strlen("
+before_length Spark = codes "CAST(octet_length("
+before_length ClickHouse = codes "toInt64(length("
+
+abbrev pub behind_length : Dialect → List ℕ
+behind_length Postgres = codes ") AS bigint)"
+behind_length Sqlite = codes " AS BLOB))"
+behind_length DuckDb = codes ")"
+behind_length Spark = codes ") AS BIGINT)"
+behind_length ClickHouse = codes "))"
+
+abbrev pub length_sql : Dialect → List ℕ → List ℕ
+length_sql d c = before_length d ++ (c ++ behind_length d)
+
 -- ---- choices
 
 -- the value where the condition is true, and what follows
@@ -243,6 +280,8 @@ own_sql d t is_null bs cs = null_test d (has_struct_first bs) true (get_or cs 0 
 own_sql d t is_not_null bs cs = null_test d (has_struct_first bs) false (get_or cs 0 [])
 own_sql d t mask bs cs = choice_sql (get_or cs 1 []) (get_or cs 0 []) (codes " END")
 own_sql d t (cast u) bs cs = get_or cs 0 []
+own_sql d t starts_with bs cs = match_sql d false false (get_or cs 0 []) (second_beginning d bs)
+own_sql d t byte_length bs cs = length_sql d (get_or cs 0 [])
 
 -- the text of a node; over another number of children it has none
 abbrev pub node_sql : Dialect → LogicalType → Function → BoundTrees → List (List ℕ) → List ℕ

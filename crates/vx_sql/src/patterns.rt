@@ -5,13 +5,13 @@ ghost use Rattle.std.specs.Fmt.{WritesOnOk};
 ghost use Rattle.std.specs.List.{flat_map};
 ghost use Rattle.vx_eval_like.specs.Patterns.{part_view, spelled_by};
 ghost use Rattle.vx_sql.specs.Quotes.{inside};
-ghost use Rattle.vx_sql.specs.Patterns.{has_globs, like_escape, is_like_sign, is_glob_sign, enclosed, enclosed_pair, like_char, like_part, glob_char, glob_part, part_spelled, parts_spelled, pattern_sql};
+ghost use Rattle.vx_sql.specs.Patterns.{has_globs, like_escape, is_like_sign, is_glob_sign, enclosed, enclosed_pair, like_char, like_part, glob_char, glob_part, part_spelled, parts_spelled, pattern_sql, beginning_parts, beginning_sql};
 
 use crate::Dialect;
 use crate::quotes::Quoting;
 use std::fmt;
 use std::fmt::{Formatter, Write};
-use vx_eval_like::{Part, first_part};
+use vx_eval_like::{Part, first_part, split_first};
 
 /// Whether the engine's patterns are those of GLOB. SQLite's LIKE ignores the case of letters or not,
 /// by a setting.
@@ -44,6 +44,25 @@ pub(crate) fn write_pattern<W: Write>(
     f.write_str("'")
 }
 
+/// Writes the pattern of what begins with the text as the engine's, between quotes.
+pub(crate) fn write_beginning_pattern<W: Write>(
+    dialect: Dialect,
+    text: &str,
+    f: &mut Formatter<W>,
+) -> fmt::Result
+    ensures { WritesOnOk W.write_str_gives f.old result (beginning_sql dialect text.now) f.new }
+{
+    let quoting = Quoting::of(dialect, text);
+    f.write_str(quoting.opening())?;
+    let spelling = Spelling {
+        dialect,
+        quoting,
+        ignore_case: false,
+    };
+    spelling.write_beginning(text, f)?;
+    f.write_str("'")
+}
+
 // How the parts of a pattern are spelled, inside a text.
 #[derive(Clone, Copy)]
 struct Spelling {
@@ -64,6 +83,19 @@ impl Spelling {
             rest = after;
         }
         Ok(())
+    }
+
+    // Writes the characters of the text, and any text behind them.
+    fn write_beginning<W: Write>(self, text: &str, f: &mut Formatter<W>) -> fmt::Result
+        ensures { WritesOnOk W.write_str_gives f.old result
+            (encode_utf8_all (flat_map (inside self.quoting) (parts_spelled self.dialect self.ignore_case (beginning_parts text.now)))) f.new }
+    {
+        let mut rest = text;
+        while let Some((c, after)) = split_first(rest, false) {
+            self.write_part(Part::Just(c), f)?;
+            rest = after;
+        }
+        self.write_part(Part::AnyText, f)
     }
 
     fn write_part<W: Write>(self, part: Part, f: &mut Formatter<W>) -> fmt::Result

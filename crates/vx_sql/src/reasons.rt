@@ -67,7 +67,7 @@ fn function_reason(
         ScalarFnRef::Pack(options) => pack_reason(dialect, options.names.as_slice()),
         ScalarFnRef::Select(_) => Some(Reason::UnknownFunction),
         ScalarFnRef::FillNull(_) => fill_reason(children),
-        ScalarFnRef::Like(_) => pattern_reason(children),
+        ScalarFnRef::Like(_) | ScalarFnRef::StartsWith(_) => pattern_reason(children),
         ScalarFnRef::Binary(operator) => operation_reason(dialect, dtype, *operator, children),
         ScalarFnRef::Between(_) => range_reason(children),
         ScalarFnRef::CaseWhen(_)
@@ -76,7 +76,8 @@ fn function_reason(
         | ScalarFnRef::IsNull(_)
         | ScalarFnRef::IsNotNull(_)
         | ScalarFnRef::Mask(_)
-        | ScalarFnRef::Cast(_) => None,
+        | ScalarFnRef::Cast(_)
+        | ScalarFnRef::ByteLength(_) => None,
     }
 }
 

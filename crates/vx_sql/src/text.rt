@@ -11,6 +11,7 @@ mod choices;
 mod operators;
 mod structs;
 mod tests;
+mod texts;
 
 use crate::Dialect;
 use crate::literals::write_literal;
@@ -20,6 +21,7 @@ use std::fmt;
 use std::fmt::{Display, Formatter, Write};
 use structs::{write_item, write_pack};
 use tests::{write_like, write_null_test};
+use texts::{write_beginning, write_length};
 use vx_fn::ScalarFnRef;
 use vx_tree::BoundExpression;
 use vx_types::DType;
@@ -93,6 +95,8 @@ fn write_own<W: Write>(
         ScalarFnRef::IsNotNull(_) => write_null_test(false, children, f),
         ScalarFnRef::Mask(_) => write_mask(children, f),
         ScalarFnRef::Cast(_) => write_child(children, 0, f),
+        ScalarFnRef::StartsWith(_) => write_beginning(children, f),
+        ScalarFnRef::ByteLength(_) => write_length(children, f),
     }
 }
 

@@ -8,7 +8,7 @@ use crate::kinds::{Kind, Measure};
 use vx_types::PType;
 
 /// Nodes that give truth values.
-const TRUTHS: [&str; 42] = [
+const TRUTHS: [&str; 44] = [
     "(T and T)",
     "(T or T)",
     "(not T)",
@@ -42,6 +42,8 @@ const TRUTHS: [&str; 42] = [
     "(S not ilike #S)",
     "(S like #S)",
     "(S ilike #S)",
+    "starts_with(S, #S)",
+    "(byte_length(S) <= 3i64)",
     "(T is null)",
     "(N is null)",
     "(S is not null)",

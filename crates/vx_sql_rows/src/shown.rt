@@ -46,10 +46,13 @@ fn leads_to(node: &BoundExpression, index: usize) -> bool {
             | ScalarFnRef::Not(_)
             | ScalarFnRef::IsNull(_)
             | ScalarFnRef::IsNotNull(_)
-            | ScalarFnRef::Cast(_),
+            | ScalarFnRef::Cast(_)
+            | ScalarFnRef::ByteLength(_),
         ) => true,
         Some(ScalarFnRef::Between(_)) => index < 2,
-        Some(ScalarFnRef::FillNull(_) | ScalarFnRef::Like(_)) => index == 0,
+        Some(ScalarFnRef::FillNull(_) | ScalarFnRef::Like(_) | ScalarFnRef::StartsWith(_)) => {
+            index == 0
+        }
         Some(ScalarFnRef::CaseWhen(_) | ScalarFnRef::Zip(_) | ScalarFnRef::Mask(_)) => false,
         Some(ScalarFnRef::GetItem(_) | ScalarFnRef::Pack(_) | ScalarFnRef::Select(_)) => false,
         Some(ScalarFnRef::Literal(_)) | None => false,
@@ -70,6 +73,7 @@ fn is_plain(tree: &BoundExpression, levels: usize) -> bool {
         Some(ScalarFnRef::Binary(_) | ScalarFnRef::Not(_) | ScalarFnRef::Between(_)) => true,
         Some(ScalarFnRef::IsNull(_) | ScalarFnRef::IsNotNull(_) | ScalarFnRef::FillNull(_)) => true,
         Some(ScalarFnRef::Cast(_) | ScalarFnRef::Like(_)) => true,
+        Some(ScalarFnRef::StartsWith(_) | ScalarFnRef::ByteLength(_)) => true,
         Some(ScalarFnRef::GetItem(_) | ScalarFnRef::Pack(_) | ScalarFnRef::Select(_)) | None =>
             true,
     };

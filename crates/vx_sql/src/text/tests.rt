@@ -100,7 +100,7 @@ fn behind_folded(dialect: Dialect) -> &'static str
 }
 
 // What stands before a text that is matched.
-fn write_before_matched<W: Write>(
+pub(super) fn write_before_matched<W: Write>(
     dialect: Dialect,
     ignore_case: bool,
     f: &mut Formatter<W>,
@@ -116,7 +116,7 @@ fn write_before_matched<W: Write>(
 }
 
 // What stands behind it: a GLOB compares bytes by itself.
-fn write_behind_matched<W: Write>(
+pub(super) fn write_behind_matched<W: Write>(
     dialect: Dialect,
     ignore_case: bool,
     f: &mut Formatter<W>,
@@ -136,7 +136,11 @@ fn write_behind_matched<W: Write>(
 }
 
 // The word of a match.
-fn write_like_sign<W: Write>(dialect: Dialect, negated: bool, f: &mut Formatter<W>) -> fmt::Result
+pub(super) fn write_like_sign<W: Write>(
+    dialect: Dialect,
+    negated: bool,
+    f: &mut Formatter<W>,
+) -> fmt::Result
     ensures { WritesOnOk W.write_str_gives f.old result (like_sign dialect negated) f.new }
 {
     f.write_str(if negated { " NOT" } else { "" })?;
@@ -148,7 +152,7 @@ fn write_like_sign<W: Write>(dialect: Dialect, negated: bool, f: &mut Formatter<
 }
 
 // What stands behind the pattern.
-fn like_end(dialect: Dialect) -> &'static str
+pub(super) fn like_end(dialect: Dialect) -> &'static str
     ensures { result.now ≡ like_end dialect }
 {
     match dialect {

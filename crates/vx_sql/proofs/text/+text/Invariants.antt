@@ -110,6 +110,12 @@ decreases-tests::write_null_test g l = 16 * sizes_of (unbound_each (bounds_of l.
 abbrev pub decreases-tests::write_like : goal.decreases-tests::write_like
 decreases-tests::write_like g l = 16 * sizes_of (unbound_each (bounds_of l.children.nodes.now)) + 5
 
+abbrev pub decreases-texts::write_beginning : goal.decreases-texts::write_beginning
+decreases-texts::write_beginning g l = 16 * sizes_of (unbound_each (bounds_of l.children.nodes.now)) + 5
+
+abbrev pub decreases-texts::write_length : goal.decreases-texts::write_length
+decreases-texts::write_length g l = 16 * sizes_of (unbound_each (bounds_of l.children.nodes.now)) + 5
+
 -- what is written, and what is left to write, is the text of all pairs
 abbrev pub invariant-choices::write_branches-loop-pair : goal.invariant-choices::write_branches-loop-pair
 invariant-choices::write_branches-loop-pair g l =
