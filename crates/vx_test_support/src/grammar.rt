@@ -90,7 +90,7 @@ const DAY_LITERALS: [&str; 3] = [
     "null::date?",
 ];
 
-const TRUTHS: [&str; 34] = [
+const TRUTHS: [&str; 37] = [
     "(T1 and T2)",
     "(T1 or T2)",
     "(not T1)",
@@ -100,6 +100,9 @@ const TRUTHS: [&str; 34] = [
     "(S1 not like #s)",
     "(S1 ilike #s)",
     "(S1 not ilike #s)",
+    "starts_with(S1, #s)",
+    "starts_with(S1, S2)",
+    "(byte_length(S1) < 3i64)",
     "(T1 is null)",
     "(N1 is not null)",
     "(P1 is null)",

@@ -81,6 +81,7 @@ impl Constructors for OfBound<'_> {
             Test::Not => build::not(alloc, child),
             Test::IsNull => build::is_null(alloc, child),
             Test::IsNotNull => build::is_not_null(alloc, child),
+            Test::ByteLength => build::byte_length(alloc, child),
         }
     }
 
@@ -143,6 +144,15 @@ impl Constructors for OfBound<'_> {
             (false, true) => build::ilike(alloc, child, pattern),
             (true, true) => build::not_ilike(alloc, child, pattern),
         }
+    }
+
+    fn starts_with(
+        &self,
+        alloc: Global,
+        child: BoundExpression,
+        prefix: BoundExpression,
+    ) -> VortexResult<BoundExpression> {
+        build::starts_with(alloc, child, prefix)
     }
 
     fn between(

@@ -17,6 +17,7 @@ pub enum Test {
     Not,
     IsNull,
     IsNotNull,
+    ByteLength,
 }
 
 /// A set of constructors, by the names that they have.
@@ -48,7 +49,7 @@ pub trait Constructors {
 
     fn cast(&self, alloc: Global, child: Self::Tree, target: DType) -> VortexResult<Self::Tree>;
 
-    /// By `not`, `is_null` or `is_not_null`.
+    /// By `not`, `is_null`, `is_not_null` or `byte_length`.
     fn test(&self, alloc: Global, test: Test, child: Self::Tree) -> VortexResult<Self::Tree>;
 
     fn binary(
@@ -82,6 +83,13 @@ pub trait Constructors {
         options: LikeOptions,
         child: Self::Tree,
         pattern: Self::Tree,
+    ) -> VortexResult<Self::Tree>;
+
+    fn starts_with(
+        &self,
+        alloc: Global,
+        child: Self::Tree,
+        prefix: Self::Tree,
     ) -> VortexResult<Self::Tree>;
 
     fn between(
@@ -159,6 +167,11 @@ pub fn node<C: Constructors>(
             let (child, pattern) = two(children)?;
             by.like(alloc, *options, child, pattern)
         }
+        ScalarFnRef::StartsWith(_) => {
+            let (child, prefix) = two(children)?;
+            by.starts_with(alloc, child, prefix)
+        }
+        ScalarFnRef::ByteLength(_) => by.test(alloc, Test::ByteLength, one(children)?),
     }
 }
 

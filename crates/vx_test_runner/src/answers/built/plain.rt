@@ -63,6 +63,7 @@ impl Constructors for OfSources {
             Test::Not => vx_build::not(alloc, child),
             Test::IsNull => vx_build::is_null(alloc, child),
             Test::IsNotNull => vx_build::is_not_null(alloc, child),
+            Test::ByteLength => vx_build::byte_length(alloc, child),
         }
     }
 
@@ -125,6 +126,15 @@ impl Constructors for OfSources {
             (false, true) => vx_build::ilike(alloc, child, pattern),
             (true, true) => vx_build::not_ilike(alloc, child, pattern),
         }
+    }
+
+    fn starts_with(
+        &self,
+        alloc: Global,
+        child: Expression,
+        prefix: Expression,
+    ) -> VortexResult<Expression> {
+        vx_build::starts_with(alloc, child, prefix)
     }
 
     fn between(
