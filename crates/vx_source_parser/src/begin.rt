@@ -198,7 +198,7 @@ fn zero(context: Context, plain: PlainValues, start: usize) -> Result<Operand, P
 {
     let draft = Draft::Value(Value::Int(0), Vec::new(context.alloc));
     match plain.scalar(draft) {
-        Ok(scalar) => literal(context, scalar, (start, start)),
+        Ok(scalar) => literal(context, scalar, (start, start.saturating_add(1))),
         Err(wanted) => Err(begun_at(start, context.found, wanted)),
     }
 }
