@@ -1,9 +1,9 @@
 // The grammar of generated trees: by what a tree gives, the source text of its node over its children,
 // so that it may stand wherever an operand does.
 //
-// `T1` stands for a tree that gives a truth value, `N1`, `F1`, `C1`, `D1`, `S1`, `P1` for a whole number, a
-// float, a decimal, a day, a text, a pair of numbers, and `X1` for what the node gives; the same of them in
-// one row is the same tree. `#t`, `#n`, `#f`, `#c`, `#d`, `#s` and `#x` stand for literals.
+// `T1` stands for a tree that gives a truth value, `N1`, `F1`, `C1`, `D1`, `I1`, `S1`, `P1` for a whole number, a
+// float, a decimal, a day, an instant, a text, a pair of numbers, and `X1` for what the node gives; the same of
+// them in one row is the same tree. `#t`, `#n`, `#f`, `#c`, `#d`, `#i`, `#s` and `#x` stand for literals.
 
 /// What a tree gives.
 #[derive(Clone, Copy)]
@@ -15,9 +15,10 @@ pub enum Kind {
     Float,
     Decimal,
     Day,
+    Instant,
 }
 
-pub const KINDS: [Kind; 7] = [
+pub const KINDS: [Kind; 8] = [
     Kind::Truth,
     Kind::Number,
     Kind::Text,
@@ -25,6 +26,7 @@ pub const KINDS: [Kind; 7] = [
     Kind::Float,
     Kind::Decimal,
     Kind::Day,
+    Kind::Instant,
 ];
 
 impl Kind {
@@ -38,6 +40,7 @@ impl Kind {
             Kind::Float => &["f", "g"],
             Kind::Decimal => &["p"],
             Kind::Day => &["d"],
+            Kind::Instant => &["t"],
         }
     }
 
@@ -51,6 +54,7 @@ impl Kind {
             Kind::Float => &FLOAT_LITERALS,
             Kind::Decimal => &DECIMAL_LITERALS,
             Kind::Day => &DAY_LITERALS,
+            Kind::Instant => &INSTANT_LITERALS,
         }
     }
 
@@ -64,6 +68,7 @@ impl Kind {
             Kind::Float => &FLOATS,
             Kind::Decimal => &DECIMALS,
             Kind::Day => &DAYS,
+            Kind::Instant => &INSTANTS,
         }
     }
 }
@@ -90,7 +95,13 @@ const DAY_LITERALS: [&str; 3] = [
     "null::date?",
 ];
 
-const TRUTHS: [&str; 37] = [
+const INSTANT_LITERALS: [&str; 3] = [
+    "\"2024-01-31T10:15:30.25Z\"::timestamp(us, \"UTC\")",
+    "\"1969-12-31T23:59:59.999999Z\"::timestamp(us, \"UTC\")",
+    "null::timestamp(us, \"UTC\")?",
+];
+
+const TRUTHS: [&str; 40] = [
     "(T1 and T2)",
     "(T1 or T2)",
     "(not T1)",
@@ -127,6 +138,9 @@ const TRUTHS: [&str; 37] = [
     "(D1 >= #d)",
     "(D1 = D2)",
     "(d > #d and #d > d)",
+    "(I1 < #i)",
+    "(I1 = I2)",
+    "(t >= #i and t < #i)",
     "fill_null(T1, #t)",
     "cast(T1 as bool?)",
 ];
@@ -162,6 +176,8 @@ const DECIMALS: [&str; 4] = [
 ];
 
 const DAYS: [&str; 2] = ["fill_null(D1, #d)", "cast(D1 as date?)"];
+
+const INSTANTS: [&str; 2] = ["fill_null(I1, #i)", "cast(I1 as timestamp(us, \"UTC\")?)"];
 
 const TEXTS: [&str; 2] = ["fill_null(S1, #s)", "cast(S1 as utf8?)"];
 

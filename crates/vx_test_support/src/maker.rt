@@ -14,6 +14,7 @@ struct Layer {
     floats: Vec<String>,
     decimals: Vec<String>,
     days: Vec<String>,
+    instants: Vec<String>,
 }
 
 impl Layer {
@@ -26,6 +27,7 @@ impl Layer {
             floats: Vec::new(alloc),
             decimals: Vec::new(alloc),
             days: Vec::new(alloc),
+            instants: Vec::new(alloc),
         }
     }
 
@@ -38,6 +40,7 @@ impl Layer {
             Kind::Float => &mut self.floats,
             Kind::Decimal => &mut self.decimals,
             Kind::Day => &mut self.days,
+            Kind::Instant => &mut self.instants,
         };
         Ok(trees.push(tree)?)
     }
@@ -52,6 +55,7 @@ impl Layer {
             Kind::Float => &self.floats,
             Kind::Decimal => &self.decimals,
             Kind::Day => &self.days,
+            Kind::Instant => &self.instants,
         };
         match trees.len() {
             0 => "$",
@@ -153,6 +157,7 @@ impl Maker {
             "#f" => self.seeds.pick(Kind::Float.literals()),
             "#c" => self.seeds.pick(Kind::Decimal.literals()),
             "#d" => self.seeds.pick(Kind::Day.literals()),
+            "#i" => self.seeds.pick(Kind::Instant.literals()),
             "#x" => self.seeds.pick(kind.literals()),
             _ => child(word, kind, below, chosen).unwrap_or(word),
         }
@@ -175,6 +180,7 @@ fn child<'a>(word: &str, kind: Kind, below: &'a Layer, chosen: [usize; 3]) -> Op
         "F" => Kind::Float,
         "C" => Kind::Decimal,
         "D" => Kind::Day,
+        "I" => Kind::Instant,
         "X" => kind,
         _ => return None,
     };

@@ -22,12 +22,12 @@ use vx_test_support::{Maker, Seeds, Unread, column, expression};
 use vx_tree::{BoundExpression, Column, Expression, VortexError, VortexResult};
 
 const SCOPE: &str =
-    "{a={x=i32?,y=i32}?,b=i32?,m=bool?,s=utf8,f=f64?,g=f64,p=decimal(6, 2)?,d=date?}";
+    "{a={x=i32?,y=i32}?,b=i32?,m=bool?,s=utf8,f=f64?,g=f64,p=decimal(6, 2)?,d=date?,t=timestamp(us, \"UTC\")?}";
 
 // With null in each field that may be null.
-const ROWS: &str = "{null,1,true,'ab,f64(0.2),f64(nan),999,null} \
-    {{null,2},null,false,',null,f64(-0.0),null,19782} \
-    {{3,-1},3,null,'abab,f64(-inf),f64(0.0),-1,-1}";
+const ROWS: &str = "{null,1,true,'ab,f64(0.2),f64(nan),999,null,1706696130250000} \
+    {{null,2},null,false,',null,f64(-0.0),null,19782,null} \
+    {{3,-1},3,null,'abab,f64(-inf),f64(0.0),-1,-1,-1}";
 
 /// What arrays, queries and scans of so many trees answer beside their evaluation, from a seed on:
 /// `SEED COUNT`. Of the trees that are answered otherwise the one of the shortest text is told, and

@@ -5,7 +5,7 @@ use vx_prune::{ChunkStats, FieldStats};
 use vx_test_support::Seeds;
 use vx_tree::{Column, Value, VortexResult};
 
-const PATHS: &str = "a.x a.y b m s f g p d";
+const PATHS: &str = "a.x a.y b m s f g p d t";
 
 /// What is read off the batch, loosened by chance: of four paths about one is left out, and of the
 /// others about one of four statistics, or its end lies further out.
