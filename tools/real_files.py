@@ -7,8 +7,10 @@ status is 1 where there is one. The filters are random, but the same each time.
 usage: tools/real_files.py PROGRAM FOLDER
 """
 import csv
+import datetime
 import io
 import json
+import math
 import os
 import random
 import re
@@ -18,6 +20,9 @@ import tempfile
 
 FILTERS = 20
 WHOLE = re.compile(r"-?(0|[1-9][0-9]*)\Z", re.ASCII)
+NUMBER = re.compile(r"-?(0|[1-9][0-9]*)(\.[0-9]+)?([eE][-+]?[0-9]+)?\Z", re.ASCII)
+DAY = re.compile(r"[0-9]{4}-[0-9]{2}-[0-9]{2}\Z", re.ASCII)
+INSTANT = re.compile(r"[0-9]{4}-[0-9]{2}-[0-9]{2}[Tt ][0-9]{2}:", re.ASCII)
 PLAIN = re.compile(r"[A-Za-z0-9 ]+\Z")
 ENDINGS = {".csv": ",", ".tsv": "\t", ".json": None, ".jsonl": None}
 
@@ -26,26 +31,67 @@ class Unreadable(Exception):
     """A file that has to be refused."""
 
 
+class Pointed(str):
+    """A number of JSON with a point or an exponent, as it is written."""
+
+
 class Column:
-    """A column: how an expression names it, its values as Python has them (None is null), and its type."""
+    """A column: how an expression names it, its type, its values as they are compared (None is null), and how each
+    is written in an expression."""
 
-    def __init__(self, path, values):
+    def __init__(self, path, kind, values, shown):
         self.path = path
+        self.kind = kind
         self.values = values
-        self.kind, self.values = typed(values)
+        self.shown = dict(zip(values, shown))
 
 
-def typed(texts):
-    """The type of the texts, as it is guessed of a CSV file, and their values; None stands for an empty cell."""
+def column_of(path, texts, kind):
+    """The column of that kind, whose values have these texts; None stands for null."""
+    value = {"bool": lambda text: text == "true", "whole": int, "float": key_of}.get(kind, str)
+    quote = (lambda text: f'"{text}"') if kind in ("text", "day") else str
+    values = [None if text is None else value(text) for text in texts]
+    return Column(path, kind, values, [None if text is None else quote(text) for text in texts])
+
+
+def key_of(text):
+    """A floating-point number, with its sign behind it, since -0.0 comes before 0.0."""
+    number = float(text)
+    return number, math.copysign(1, number)
+
+
+def kind_of(texts):
+    """The type of the texts, as it is guessed of the cells of a CSV file; None stands for an empty cell."""
     known = [text for text in texts if text is not None]
     if known and all(text in ("true", "false") for text in known):
-        return "bool", [None if text is None else text == "true" for text in texts]
+        return "bool"
+    return kind_of_numbers(known) or kind_of_texts(known)
+
+
+def kind_of_numbers(known):
+    """The type of these, if they are numbers that have one; other numbers are texts."""
     if known and all(WHOLE.match(text) for text in known):
         numbers = [int(text) for text in known]
         least, greatest = min(numbers), max(numbers)
-        if least >= -(2**63) and greatest < 2**63 or least >= 0 and greatest < 2**64:
-            return "whole", [None if text is None else int(text) for text in texts]
-    return "text", texts
+        return "whole" if least >= -(2**63) and greatest < 2**63 or least >= 0 and greatest < 2**64 else None
+    if known and all(NUMBER.match(text) for text in known):
+        is_long = any(WHOLE.match(text) and len(text.lstrip("-")) > 38 for text in known)
+        return None if is_long or any(math.isinf(float(text)) for text in known) else "float"
+    return None
+
+
+def kind_of_texts(known):
+    """The type of texts that are no numbers: days, what looks like instants, others."""
+    if known and all(is_day(text) for text in known):
+        return "day"
+    return "instant" if known and all(INSTANT.match(text) for text in known) else "text"
+
+
+def is_day(text):
+    try:
+        return bool(DAY.match(text) and datetime.date.fromisoformat(text))
+    except ValueError:
+        return False
 
 
 def quoted(name):
@@ -85,7 +131,7 @@ def csv_file(path, delimiter):
         raise Unreadable
     nested = are_nested(names)
     cells = [[row[i] or None if i < len(row) else None for row in rows] for i in range(len(names))]
-    columns = [Column(path_of(name, nested), texts) for name, texts in zip(names, cells)]
+    columns = [column_of(path_of(name, nested), texts, kind_of(texts)) for name, texts in zip(names, cells)]
     return words, rows, lambda output: rows_of(output, delimiter, False)[1:], columns
 
 
@@ -97,7 +143,7 @@ def rows_of(text, delimiter, has_comments):
 
 
 def json_file(path):
-    """The same of a file of JSON. Numbers with a point are their texts."""
+    """The same of a file of JSON."""
     with open(path, encoding="utf-8") as file:
         records = values_of(file.read())
     if len(records) == 1 and isinstance(records[0], list):
@@ -108,17 +154,18 @@ def json_file(path):
     columns = []
     for name in names:
         values = [record.get(name) for record in records]
-        if all(value is None or isinstance(value, str) for value in values):
-            column = Column(quoted(name), [])
-            column.kind, column.values = "text", values
-            columns.append(column)
-        elif all(value is None or type(value) is int for value in values):
-            columns.append(Column(quoted(name), [None if value is None else str(value) for value in values]))
+        known = [value for value in values if value is not None]
+        if all(type(value) is str for value in known):
+            columns.append(column_of(quoted(name), values, kind_of_texts(known)))
+        elif all(type(value) in (int, Pointed) for value in known):
+            texts = [None if value is None else str(value) for value in values]
+            kind = kind_of_numbers([text for text in texts if text is not None])
+            columns.append(column_of(quoted(name), texts, kind or "text"))
     return [], records, values_of, columns
 
 
 def values_of(text):
-    decoder, values, at = json.JSONDecoder(parse_float=str), [], 0
+    decoder, values, at = json.JSONDecoder(parse_float=Pointed), [], 0
     while at < len(text):
         if text[at].isspace():
             at += 1
@@ -134,7 +181,7 @@ def test_of(column, chance):
     ways = ["null", "not null"]
     if column.kind == "bool":
         ways += ["is", "is not"]
-    elif column.kind == "whole" and known:
+    elif column.kind in ("whole", "float", "day") and known:
         ways += ["=", "<", ">=", "between"] * 2
     elif column.kind == "text" and any(PLAIN.match(value) for value in known):
         ways += ["=", "<>", "<", ">=", "like"] * 2
@@ -154,18 +201,20 @@ def test_of(column, chance):
     if way == "is not":
         return f"not {at}", each(lambda value: not value)
     chosen = chance.choice(known)
-    shown = f'"{chosen}"' if column.kind == "text" else str(chosen)
+    shown = column.shown[chosen]
     if way == "like":
         start = chosen[: chance.randrange(len(chosen) + 1)]
         return f'{at} like "{start}%"', each(lambda value: value.startswith(start))
     if way == "between":
         other = chance.choice(known)
-        return f"{at} between {chosen} and {other}", each(lambda value: chosen <= value <= other)
-    if column.kind == "text":
-        bytes_of = chosen.encode()
-        tests = {"=": lambda v: v == chosen, "<>": lambda v: v != chosen, "<": lambda v: v.encode() < bytes_of, ">=": lambda v: v.encode() >= bytes_of}
-    else:
-        tests = {"=": lambda v: v == chosen, "<": lambda v: v < chosen, ">=": lambda v: v >= chosen}
+        return f"{at} between {shown} and {column.shown[other]}", each(lambda value: chosen <= value <= other)
+    order = str.encode if column.kind == "text" else lambda value: value
+    tests = {
+        "=": lambda value: value == chosen,
+        "<>": lambda value: value != chosen,
+        "<": lambda value: order(value) < order(chosen),
+        ">=": lambda value: order(value) >= order(chosen),
+    }
     return f"{at} {way} {shown}", each(tests[way])
 
 
