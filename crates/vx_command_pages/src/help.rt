@@ -1,4 +1,5 @@
 // What would do where an expression is refused.
+use vx_source::Expected;
 use vx_tree::VortexError;
 
 /// What would do in place of what was refused, None where the refusal says it.
@@ -22,9 +23,20 @@ pub(crate) fn help_for(refusal: &VortexError) -> Option<&'static str> {
     }
 }
 
-/// What would do in place of what stands at that byte of an expression, where other languages have it and this one
-/// hasn't.
-pub(crate) fn help_for_unread(text: &str, at: usize) -> Option<&'static str> {
+/// What would do in place of what stands at that byte of an expression: a value without its type or of another one, or
+/// what other languages have and this one hasn't.
+pub(crate) fn help_for_unread(text: &str, at: usize, expected: &Expected) -> Option<&'static str> {
+    match expected {
+        Expected::ValueType => Some("write its type behind it, as in [1, 2]::list(i32)"),
+        Expected::FittingType => Some(
+            "the value has to be one of the type behind it: 300 is no i8, and null::i32 lacks a `?`",
+        ),
+        _ => help_for_sign(text, at),
+    }
+}
+
+// What would do in place of a sign that other languages have.
+fn help_for_sign(text: &str, at: usize) -> Option<&'static str> {
     let bytes = text.as_bytes();
     match bytes.get(at)? {
         b'&' => Some("write `and`, as in x > 1 and y > 2"),

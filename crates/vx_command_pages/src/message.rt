@@ -72,7 +72,7 @@ impl Display for Message<'_> {
         match self.error {
             CommandError::OutOfMemory => f.write_str("error: out of memory"),
             CommandError::UnreadExpression { at, expected } => {
-                let help = help_for_unread(self.expression.text, *at).map(Help::Said);
+                let help = help_for_unread(self.expression.text, *at, expected).map(Help::Said);
                 let report = self.expression.report(expected, place(*at), help);
                 report.fmt(f)
             }

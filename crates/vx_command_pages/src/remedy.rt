@@ -118,8 +118,8 @@ fn write_part<W: Write>(part: &Part, expression: &str, f: &mut Formatter<W>) -> 
 // How many characters are cited at most.
 const CITED: usize = 40;
 
-// Those bytes of the text, unless they are too many.
-fn cited(text: &str, span: Span) -> Option<&str> {
+/// Those bytes of the text, unless they are too many.
+pub(crate) fn cited(text: &str, span: Span) -> Option<&str> {
     let (before, _) = text.split_at_checked(span.end)?;
     let (_, cited) = before.split_at_checked(span.start)?;
     if cited.chars().nth(CITED).is_none() {

@@ -1,11 +1,12 @@
 // Messages of literals that are none of the type that they take from what they stand beside.
 use crate::error::UnfitLiteral;
+use crate::remedy::cited;
 use std::fmt;
 use std::fmt::{Display, Formatter, Write};
 use vx_source::{TypeText, is_pointed};
 use vx_tree::{DType, Value};
 
-/// The literal, as the text has it, and the type.
+/// The literal, as the text has it unless it is long, and the type.
 #[derive(Clone, Copy)]
 pub(crate) struct UnfitText<'a> {
     /// The literal.
@@ -16,9 +17,8 @@ pub(crate) struct UnfitText<'a> {
 
 impl Display for UnfitText<'_> {
     fn fmt<W: Write>(&self, f: &mut Formatter<W>) -> fmt::Result {
-        let span = self.literal.span;
-        let cited = self.text.get(span.start..span.end).unwrap_or("the literal");
-        write!(f, "{cited} is no {}", TypeText(&self.literal.dtype))
+        let literal = cited(self.text, self.literal.span).unwrap_or("the literal");
+        write!(f, "{literal} is no {}", TypeText(&self.literal.dtype))
     }
 }
 
