@@ -1,10 +1,13 @@
 //! One error for callers: each error of the calls of this crate becomes it by `?`.
 ghost use Rattle.std.specs.Prelude.{◌≡◌};
-ghost use Rattle.vx_expr.specs.Errors.{of_refusal, of_parse_error, of_over_error};
+ghost use Rattle.vx_expr.specs.Errors.{of_no_statement, of_over_error, of_parse_error, of_refusal, of_sql_error, of_unsupported};
 ghost use Rattle.vx_expr.specs.declared.error.Error.TheVariants.{OutOfMemory};
 
 use std::alloc::{AllocError, AllocFailed};
 use vx_source::{OverError, ParseError};
+use vx_sql::Unsupported;
+use vx_sql_parser::SqlError;
+use vx_sql_plan::NoStatement;
 use vx_types::VortexError;
 
 /// Why a call of this crate gave nothing.
@@ -22,6 +25,15 @@ pub enum Error {
     /// A text wasn't read over its scope.
     #[error("{0}")]
     UnreadOver(OverError),
+    /// A text of SQL wasn't read.
+    #[error("{0}")]
+    UnreadSql(SqlError),
+    /// A tree has no text in an engine's SQL.
+    #[error("{0}")]
+    NoSql(Unsupported),
+    /// A plan has no statement in an engine's SQL.
+    #[error("{0}")]
+    NoStatement(NoStatement),
 }
 
 impl From<VortexError> for Error {
@@ -53,6 +65,39 @@ impl From<OverError> for Error {
         match error {
             OverError::OutOfMemory => Error::OutOfMemory,
             error => Error::UnreadOver(error),
+        }
+    }
+}
+
+impl From<SqlError> for Error {
+    ghost from_gives = { λ error e. e ≡ of_sql_error error };
+
+    fn from(error: SqlError) -> Error {
+        match error {
+            SqlError::OutOfMemory => Error::OutOfMemory,
+            error => Error::UnreadSql(error),
+        }
+    }
+}
+
+impl From<Unsupported> for Error {
+    ghost from_gives = { λ error e. e ≡ of_unsupported error };
+
+    fn from(error: Unsupported) -> Error {
+        match error {
+            Unsupported::OutOfMemory => Error::OutOfMemory,
+            error => Error::NoSql(error),
+        }
+    }
+}
+
+impl From<NoStatement> for Error {
+    ghost from_gives = { λ error e. e ≡ of_no_statement error };
+
+    fn from(error: NoStatement) -> Error {
+        match error {
+            NoStatement::OutOfMemory => Error::OutOfMemory,
+            error => Error::NoStatement(error),
         }
     }
 }

@@ -4,6 +4,8 @@
 #[cfg(test)]
 mod arrays;
 #[cfg(test)]
+mod errors;
+#[cfg(test)]
 mod forms;
 #[cfg(test)]
 mod guide;
