@@ -18,37 +18,40 @@ pub fn with_args<'a>(command: Command<'a>, args: Vec<Arg<'a>>) -> Result<Command
 }
 
 /// An expression, and a schema or the records that tell it.
-pub fn typed_expression<'a>(alloc: Global) -> Result<Vec<Arg<'a>>, AllocError> {
+pub fn typed_expression<'a>(alloc: Global, dashed: bool) -> Result<Vec<Arg<'a>>, AllocError> {
     let mut args = Vec::new(alloc);
     add(&mut args, schema_or_data(alloc))?;
     args.push(data(alloc))?;
     add_form(alloc, &mut args)?;
-    args.push(expression(alloc))?;
+    args.push(expression(alloc, dashed))?;
     Ok(args)
 }
 
 /// An expression, and records that have to be given.
-pub fn over_given_records<'a>(alloc: Global) -> Result<Vec<Arg<'a>>, AllocError> {
+pub fn over_given_records<'a>(alloc: Global, dashed: bool) -> Result<Vec<Arg<'a>>, AllocError> {
     let mut args = Vec::new(alloc);
     args.push(schema(alloc).required(false))?;
     args.push(data(alloc).required(true))?;
-    add_records(alloc, &mut args)?;
+    add_records(alloc, dashed, &mut args)?;
     Ok(args)
 }
 
 /// An expression, and a schema or records, for which statistics may stand.
-pub fn over_records_or_statistics<'a>(alloc: Global) -> Result<Vec<Arg<'a>>, AllocError> {
+pub fn over_records_or_statistics<'a>(
+    alloc: Global,
+    dashed: bool,
+) -> Result<Vec<Arg<'a>>, AllocError> {
     let mut args = Vec::new(alloc);
     add(&mut args, schema_or_data(alloc))?;
     add(&mut args, data(alloc).conflicts_with("stats"))?;
-    add_records(alloc, &mut args)?;
+    add_records(alloc, dashed, &mut args)?;
     add(&mut args, statistics(alloc))?;
     Ok(args)
 }
 
 // Adds an expression, in what form records stand, and how many are gone over.
-fn add_records<'a>(alloc: Global, args: &mut Vec<Arg<'a>>) -> Result<(), AllocError> {
-    args.push(expression(alloc))?;
+fn add_records<'a>(alloc: Global, dashed: bool, args: &mut Vec<Arg<'a>>) -> Result<(), AllocError> {
+    args.push(expression(alloc, dashed))?;
     add_form(alloc, args)?;
     Ok(args.push(limit(alloc))?)
 }
@@ -91,12 +94,26 @@ fn data<'a>(alloc: Global) -> Arg<'a> {
         .help("The file of the records, or - for standard input")
 }
 
-/// The expression.
-pub fn expression<'a>(alloc: Global) -> Arg<'a> {
+/// Whether the word can be an expression that begins with a dash, as `-x > 1`, and no option: behind one dash it has a
+/// character that no option has. What is one word behind the dash, as `-x`, is taken for an option.
+pub fn is_dashed(word: &str) -> bool {
+    match word.strip_prefix('-') {
+        Some(rest) if !rest.starts_with('-') => {
+            rest.as_bytes()
+                .iter()
+                .any(|byte| !byte.is_ascii_alphanumeric())
+        }
+        _ => false,
+    }
+}
+
+/// The expression, which may begin with a dash where one of the words does.
+pub fn expression<'a>(alloc: Global, dashed: bool) -> Arg<'a> {
     Arg::new(alloc, "expression")
         .value_name("EXPR")
         .required(true)
         .allow_negative_numbers(true)
+        .allow_hyphen_values(dashed)
         .action(ArgAction::Set)
         .help("The expression, as in x >= 1 and x <= 5")
 }
@@ -133,6 +150,7 @@ fn null<'a>(alloc: Global) -> Arg<'a> {
     Arg::new(alloc, "null")
         .long("null")
         .value_name("TEXT")
+        .allow_negative_numbers(true)
         .action(ArgAction::Set)
         .help("A cell of this text is null where an empty one is")
 }
@@ -210,10 +228,12 @@ pub fn output<'a>(alloc: Global) -> Arg<'a> {
 }
 
 /// What is selected of records that are kept.
-pub fn select<'a>(alloc: Global) -> Result<Arg<'a>, AllocError> {
+pub fn select<'a>(alloc: Global, dashed: bool) -> Result<Arg<'a>, AllocError> {
     Arg::new(alloc, "select")
         .long("select")
         .value_name("EXPR")
+        .allow_negative_numbers(true)
+        .allow_hyphen_values(dashed)
         .action(ArgAction::Set)
         .help(
             "Print what this expression means at each of these records, or a list, as in id, total: cents + 100",

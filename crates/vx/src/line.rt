@@ -9,7 +9,7 @@ use std::alloc::{AllocError, Global};
 const VERSION: &str = "0.1.0";
 
 /// The words that the program takes.
-pub fn command_line<'a>(alloc: Global) -> Result<Command<'a>, AllocError> {
+pub fn command_line<'a>(alloc: Global, dashed: bool) -> Result<Command<'a>, AllocError> {
     let mut line = Command::new(alloc, "vx")
         .version(VERSION)
         .about(
@@ -19,7 +19,7 @@ pub fn command_line<'a>(alloc: Global) -> Result<Command<'a>, AllocError> {
         .subcommand_required(true)
         .arg_required_else_help(true)
         .bin_name("vx")?;
-    for command in commands(alloc)? {
+    for command in commands(alloc, dashed)? {
         line = line.subcommand(command)?;
     }
     Ok(line)
@@ -36,15 +36,15 @@ Examples:
   vx check 'x >= 1 and x <= 5' --schema '{x=i32}'
   vx filter 'cents > 5000 and ship.country = \"GB\"' --data orders.csv";
 
-fn commands<'a>(alloc: Global) -> Result<Vec<Command<'a>>, AllocError> {
+fn commands<'a>(alloc: Global, dashed: bool) -> Result<Vec<Command<'a>>, AllocError> {
     let mut commands = Vec::new(alloc);
-    add(&mut commands, check(alloc))?;
-    add(&mut commands, explain(alloc))?;
-    add(&mut commands, evaluate(alloc))?;
-    add(&mut commands, filter(alloc))?;
-    add(&mut commands, format(alloc))?;
-    add(&mut commands, plan(alloc))?;
-    add(&mut commands, graph(alloc))?;
+    add(&mut commands, check(alloc, dashed))?;
+    add(&mut commands, explain(alloc, dashed))?;
+    add(&mut commands, evaluate(alloc, dashed))?;
+    add(&mut commands, filter(alloc, dashed))?;
+    add(&mut commands, format(alloc, dashed))?;
+    add(&mut commands, plan(alloc, dashed))?;
+    add(&mut commands, graph(alloc, dashed))?;
     Ok(commands)
 }
 
@@ -53,8 +53,8 @@ const CHECK: &str = "Example:
 prints
   bool";
 
-fn check<'a>(alloc: Global) -> Result<Command<'a>, AllocError> {
-    let mut args = typed_expression(alloc)?;
+fn check<'a>(alloc: Global, dashed: bool) -> Result<Command<'a>, AllocError> {
+    let mut args = typed_expression(alloc, dashed)?;
     args.push(dialect(alloc))?;
     let command = Command::new(alloc, "check")
         .about("Prints the type of the expression")
@@ -70,8 +70,8 @@ for that engine, and what of the expression it takes; with --stats what is known
 whose statistics are a line of JSON, as in
   {\"rows\": 3, \"fields\": {\"a.x\": {\"nulls\": 1, \"least\": 1, \"greatest\": 5}}}";
 
-fn explain<'a>(alloc: Global) -> Result<Command<'a>, AllocError> {
-    let mut args = over_records_or_statistics(alloc)?;
+fn explain<'a>(alloc: Global, dashed: bool) -> Result<Command<'a>, AllocError> {
+    let mut args = over_records_or_statistics(alloc, dashed)?;
     let sql = sql(alloc)?.conflicts_with("data")?.conflicts_with("stats");
     add(&mut args, sql)?;
     add(&mut args, table(alloc))?;
@@ -85,8 +85,8 @@ const EVALUATE: &str = "Example:
   vx eval 'cents + 100' --data orders.csv --limit 10
 prints a line of JSON for each of the first 10 records";
 
-fn evaluate<'a>(alloc: Global) -> Result<Command<'a>, AllocError> {
-    let mut args = over_given_records(alloc)?;
+fn evaluate<'a>(alloc: Global, dashed: bool) -> Result<Command<'a>, AllocError> {
+    let mut args = over_given_records(alloc, dashed)?;
     args.push(output(alloc).default_value("json"))?;
     args.push(dialect(alloc))?;
     let command = Command::new(alloc, "eval")
@@ -100,10 +100,10 @@ const FILTER: &str = "Example:
 writes the header, and each record with more than 5000 cents as it stands; with --chunk also says, on
 standard error, how many chunks weren't evaluated";
 
-fn filter<'a>(alloc: Global) -> Result<Command<'a>, AllocError> {
-    let mut args = over_given_records(alloc)?;
+fn filter<'a>(alloc: Global, dashed: bool) -> Result<Command<'a>, AllocError> {
+    let mut args = over_given_records(alloc, dashed)?;
     add(&mut args, chunk(alloc))?;
-    add(&mut args, select(alloc))?;
+    add(&mut args, select(alloc, dashed))?;
     add(&mut args, output(alloc).conflicts_with("count"))?;
     args.push(count(alloc))?;
     args.push(dialect(alloc))?;
@@ -118,11 +118,11 @@ const FORMAT: &str = "Example:
 prints
   (1i32 <= $.x <= 3i32)";
 
-fn format<'a>(alloc: Global) -> Result<Command<'a>, AllocError> {
+fn format<'a>(alloc: Global, dashed: bool) -> Result<Command<'a>, AllocError> {
     Command::new(alloc, "fmt")
         .about("Prints the expression as its source text")
         .after_help(FORMAT)
-        .arg(expression(alloc))?
+        .arg(expression(alloc, dashed))?
         .arg(dialect(alloc))
 }
 
@@ -134,8 +134,8 @@ prints a SELECT for that engine, and behind it what the engine can't take of the
   vx plan 'x >= 1' --schema '{x=i32}' --chunks chunks.stats
 prints the number of each chunk that has to be read, and whether the expression is true of every row";
 
-fn plan<'a>(alloc: Global) -> Result<Command<'a>, AllocError> {
-    let mut args = typed_expression(alloc)?;
+fn plan<'a>(alloc: Global, dashed: bool) -> Result<Command<'a>, AllocError> {
+    let mut args = typed_expression(alloc, dashed)?;
     args.push(json(alloc))?;
     add(&mut args, sql(alloc)?.conflicts_with("json"))?;
     add(&mut args, table(alloc))?;
@@ -149,8 +149,8 @@ fn plan<'a>(alloc: Global) -> Result<Command<'a>, AllocError> {
 const DOT: &str = "Example:
   vx dot 'x >= 1' --schema '{x=i32}' | dot -Tsvg > tree.svg";
 
-fn graph<'a>(alloc: Global) -> Result<Command<'a>, AllocError> {
-    let args = typed_expression(alloc)?;
+fn graph<'a>(alloc: Global, dashed: bool) -> Result<Command<'a>, AllocError> {
+    let args = typed_expression(alloc, dashed)?;
     let command = Command::new(alloc, "dot")
         .about("Prints the typed tree in Graphviz's language")
         .after_help(DOT);

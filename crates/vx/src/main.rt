@@ -13,6 +13,7 @@ mod texts;
 mod written;
 
 use anyhow::{Context, Result};
+use arguments::is_dashed;
 use choices::dialect_named;
 use clap::ArgMatches;
 use clap::error::ErrorKind;
@@ -41,10 +42,11 @@ fn main(rt: HostRuntime) -> ExitCode {
 fn answer(rt: &HostRuntime) -> Result<ExitCode> {
     let alloc = rt.alloc();
     let words: Vec<String> = env::args(rt)?.collect(alloc)?;
-    let status = match command_line(alloc)?.try_get_matches_from(words.as_slice()) {
+    let dashed = words.iter().any(|word| is_dashed(word.as_str()));
+    let status = match command_line(alloc, dashed)?.try_get_matches_from(words.as_slice()) {
         Ok(matches) => asked(rt, &matches)?,
         Err(error) => {
-            if let Err(failure) = error.print(rt)
+            if let Err(failure) = print(rt, &error)
                 && failure.kind() != io::ErrorKind::BrokenPipe
             {
                 return Err(failure).context("writing");
@@ -57,6 +59,20 @@ fn answer(rt: &HostRuntime) -> Result<ExitCode> {
         }
     };
     Ok(ExitCode::from(status as u8))
+}
+
+// Prints the text that is asked for, or what is wrong with the words, with their control characters escaped.
+fn print(rt: &HostRuntime, error: &clap::Error) -> io::Result<()> {
+    if !error.use_stderr() {
+        return error.print(rt);
+    }
+    let Ok(text) = format!(in rt.alloc(); "{error}") else {
+        return error.print(rt);
+    };
+    for line in text.as_str().lines() {
+        rt.eprintln(format_args!("{}", Shown(line)))?;
+    }
+    Ok(())
 }
 
 // Runs the command of the words, of which no others are let through than those that are named here.
