@@ -90,7 +90,7 @@ const DAY_LITERALS: [&str; 3] = [
     "null::date?",
 ];
 
-const TRUTHS: [&str; 37] = [
+const TRUTHS: [&str; 40] = [
     "(T1 and T2)",
     "(T1 or T2)",
     "(not T1)",
@@ -103,6 +103,9 @@ const TRUTHS: [&str; 37] = [
     "starts_with(S1, #s)",
     "starts_with(S1, S2)",
     "(byte_length(S1) < 3i64)",
+    "list_contains([0, 3, 1]::list(i32), N1)",
+    "list_contains([3, null]::list(i32?), N1)",
+    "list_contains(['ab']::list(utf8)?, S1)",
     "(T1 is null)",
     "(N1 is not null)",
     "(P1 is null)",
