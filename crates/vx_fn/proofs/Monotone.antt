@@ -11,7 +11,7 @@ use Rattle.vx_value.specs.Fields.{field_type, field_names, names_without, projec
 use Rattle.vx_fn.specs.Functions.{Function, get_item, mask, selection_names, included, conditions, branches, is_truth}
 use Rattle.vx_fn.specs.declared.options.FieldSelection.{FieldSelection}
 use Rattle.vx_fn.specs.declared.options.FieldSelection.TheVariants.{Include, Exclude}
-use Rattle.vx_fn.specs.Rows.{FnType, of_case_else, of_case, of_get_item, of_literal, of_pack, of_select, of_fill_null, of_zip, of_comparison, of_and, of_or, of_arithmetic, of_float_arithmetic, of_decimal_arithmetic, of_not, of_between, of_like, of_is_null, of_is_not_null, of_mask, of_cast, of_starts_with, of_byte_length}
+use Rattle.vx_fn.specs.Rows.{FnType, of_case_else, of_case, of_get_item, of_literal, of_pack, of_select, of_fill_null, of_zip, of_comparison, of_and, of_or, of_arithmetic, of_float_arithmetic, of_decimal_arithmetic, of_not, of_between, of_like, of_is_null, of_is_not_null, of_mask, of_cast, of_starts_with, of_byte_length, of_list_contains}
 
 -- ---- nullability
 
@@ -238,3 +238,4 @@ fn_type-mono of_mask (forall2_cons {x = t} p (forall2_cons (narrower {n = n} sam
 fn_type-mono (of_cast {u = u} s) (forall2_cons p forall2_nil) = (u, of_cast (join-mono p (narrower_refl u) s).0, narrower_refl u)
 fn_type-mono of_starts_with (forall2_cons (narrower same_atomic_shape i) (forall2_cons (narrower same_atomic_shape j) forall2_nil)) = (_, of_starts_with, narrower same_atomic_shape (or_mono _ _ _ _ i j))
 fn_type-mono of_byte_length (forall2_cons (narrower same_atomic_shape i) forall2_nil) = (_, of_byte_length, narrower same_atomic_shape i)
+fn_type-mono (of_list_contains s) (forall2_cons (narrower (narrower_list (narrower same_atomic_shape j)) i) (forall2_cons (narrower same_atomic_shape l) forall2_nil)) = (_, of_list_contains s, narrower same_atomic_shape (or_mono _ _ _ _ (or_mono _ _ _ _ i j) l))

@@ -9,11 +9,11 @@ use Rattle.vx_value.specs.Joins.{same_base, join, union, union_all}
 use Rattle.vx_value.specs.Fields.{field_type, project, first_unknown, fields_named}
 use Rattle.vx_value.specs.Returns.{known_or}
 use Rattle.vx_floats.specs.declared.arithmetic.Arithmetic.{Arithmetic}
-use Rattle.vx_fn.specs.Functions.{Function, case_when, get_item, literal, pack, select, fill_null, zip, binary, logical_not, between, like, is_null, is_not_null, mask, cast, starts_with, byte_length, Operation, compares, and_also, or_else, computes, Comparison, selection_names, included, case_children, conditions, branches, is_truth, is_text, is_number_for, is_atomic, Typing, of_none, of_one, of_two, of_three, of_many, needs, fn_type, case_union, case_type, item_type, found, with_else, select_type, binary_type, truth_type, length_type}
+use Rattle.vx_fn.specs.Functions.{Function, case_when, get_item, literal, pack, select, fill_null, zip, binary, logical_not, between, like, is_null, is_not_null, mask, cast, starts_with, byte_length, list_contains, Operation, compares, and_also, or_else, computes, Comparison, selection_names, included, case_children, conditions, branches, is_truth, is_text, is_number_for, is_atomic, Typing, of_none, of_one, of_two, of_three, of_many, needs, fn_type, case_union, case_type, item_type, found, with_else, select_type, binary_type, truth_type, length_type, is_list_of, may_hold_null, contains_type}
 use Rattle.vx_fn.specs.declared.options.FieldSelection.{FieldSelection}
 use Rattle.vx_dtype.specs.declared.error.VortexError.{VortexError}
 use Rattle.vx_dtype.specs.declared.error.VortexError.TheVariants.{ArityMismatch, NotBool, NotText, NotComparable, BaseTypesDiffer}
-use Rattle.vx_fn.specs.Rows.{FnType, of_case_else, of_case, of_get_item, of_literal, of_pack, of_select, of_fill_null, of_zip, of_comparison, of_and, of_or, of_arithmetic, of_float_arithmetic, of_decimal_arithmetic, of_not, of_between, of_like, of_is_null, of_is_not_null, of_mask, of_cast, of_starts_with, of_byte_length}
+use Rattle.vx_fn.specs.Rows.{FnType, of_case_else, of_case, of_get_item, of_literal, of_pack, of_select, of_fill_null, of_zip, of_comparison, of_and, of_or, of_arithmetic, of_float_arithmetic, of_decimal_arithmetic, of_not, of_between, of_like, of_is_null, of_is_not_null, of_mask, of_cast, of_starts_with, of_byte_length, of_list_contains}
 
 -- ---- a number of children
 
@@ -166,6 +166,17 @@ row_length : (t : LogicalType) (a : LogicalType) → length_type a ≡ Ok t → 
 row_length t (ty (atomic text) n) e = ok_at byte_length _ of_byte_length e
 row_length t _ e = cc
 
+row_contains : (t a b : LogicalType) → contains_type a b ≡ Ok t → FnType list_contains (a ∷ b ∷ []) t
+row_contains t a b e =
+    let q = needs_ok _ _ _ e in
+    let r = needs_ok _ _ _ q.1 in
+    atomic_ok (λ b. is_list_of a b ≡ true → ok_ty (truth_type (may_hold_null a || is_nullable b)) ≡ Ok t → FnType list_contains (a ∷ b ∷ []) t)
+    (λ p m s d. go p m a s d) b q.0 r.0 r.1
+  where
+    go : (p : Atomic) (m : Bool) (a : LogicalType) → is_list_of a (ty (atomic p) m) ≡ true → ok_ty (truth_type (may_hold_null a || m)) ≡ Ok t → FnType list_contains (a ∷ ty (atomic p) m ∷ []) t
+    go p m (ty (list (ty (atomic q) k)) n) s d = ok_at list_contains _ (of_list_contains s) d
+    go p m _ s d = cc
+
 row_between : (ls us : Bool) (t a b c : LogicalType) → needs (is_atomic a && is_atomic b && is_atomic c) NotComparable (needs (same_base a b && same_base a c) BaseTypesDiffer (Ok (truth_type (is_nullable a || is_nullable b || is_nullable c)))) ≡ Ok t → FnType (between ls us) (a ∷ b ∷ c ∷ []) t
 row_between ls us t (ty (atomic p) n) (ty (atomic q) m) (ty (atomic r) k) e =
     let d = needs_ok _ _ _ e in
@@ -215,6 +226,7 @@ fn_type-found mask ts t e = two_ok _ (λ ts. FnType mask ts t) (row_mask t) ts e
 fn_type-found (cast u) ts t e = one_ok _ (λ ts. FnType (cast u) ts t) (row_cast u t) ts e
 fn_type-found starts_with ts t e = two_ok _ (λ ts. FnType starts_with ts t) (row_starts t) ts e
 fn_type-found byte_length ts t e = one_ok _ (λ ts. FnType byte_length ts t) (row_length t) ts e
+fn_type-found list_contains ts t e = two_ok _ (λ ts. FnType list_contains ts t) (row_contains t) ts e
 
 pub fn_type-only : {f : Function} {ts : List LogicalType} {t : LogicalType} → FnType f ts t → fn_type f ts ≡ Ok t
 fn_type-only (of_case_else a b c d e) = rw (a, b, c, d, e)
@@ -240,3 +252,4 @@ fn_type-only of_mask = refl
 fn_type-only (of_cast e) = rw e
 fn_type-only of_starts_with = refl
 fn_type-only of_byte_length = refl
+fn_type-only (of_list_contains e) = rw e

@@ -2,7 +2,7 @@
 use Rattle.std.proofs.Common.{IsTrue, ◌&&◌, ◌≡◌, ℕ, zero, suc, inl, inr, ◌+◌, ◌*◌, List, [], ◌∷◌, length, refl, sym, subst, Bool, true, false, ◌||◌, arith, ◌⊎◌}
 use Rattle.std.specs.Prelude.{Some, None, not, if◌then◌else◌, nat_lt, min, ◌^◌, ◌-◌}
 use Rattle.std.proofs.lemmas.Bool.Decides.{nat_tests}
-use Rattle.std.proofs.lemmas.Bool.{eqb-true, not-false, or_left, or_right, or_parts}
+use Rattle.std.proofs.lemmas.Bool.{eqb-true, not-false, and_parts, or_cases, or_left, or_right, or_parts}
 use Rattle.vx_value.proofs.Fitting.{fits-not_null, fits-wider, fits-nullable, join-fits-left, join-fits-right, Into, into_none, into_more, union_all-into, field_value-fits, project-fits, pack-fits}
 use Rattle.vx_dtype.proofs.Known.{first_unknown-filter, first_unknown-own}
 use Rattle.vx_dtype.proofs.Unions.{same_atomic-eq}
@@ -12,8 +12,8 @@ use Rattle.vx_floats.proofs.Once.{result_canonical}
 use Rattle.vx_floats.specs.declared.arithmetic.Arithmetic.{Arithmetic}
 use Rattle.vx_floats.specs.declared.arithmetic.Arithmetic.TheVariants.{Sum, Difference, Product, Quotient}
 use Rattle.vx_dtype.specs.declared.float_type.FloatType.{FloatType}
-use Rattle.vx_value.specs.Types.{Name, same_float_type, Atomic, truth, number, floating, decimals, text, LogicalType, ty, Shape, atomic, struct, Fields, Datum, null, bool, int, float, utf8, struct_of, is_nullable, with_nullability, is_null_datum}
-use Rattle.vx_value.specs.Fits.{fits, Fits, EachFits}
+use Rattle.vx_value.specs.Types.{Name, same_float_type, Atomic, truth, number, floating, decimals, text, LogicalType, ty, Shape, atomic, list, struct, Fields, Datum, null, bool, int, float, utf8, list_of, struct_of, Data, no_datum, datum, is_nullable, with_nullability, is_null_datum}
+use Rattle.vx_value.specs.Fits.{fits, each_fits, Fits, EachFits}
 use Rattle.vx_dtype.specs.Lists.{forall2_nil, forall2_cons}
 use Rattle.vx_value.specs.Joins.{same_base, join}
 use Rattle.vx_value.specs.Fields.{field_type, field_value, project, first_unknown, field_names}
@@ -22,8 +22,8 @@ use Rattle.vx_dtype.specs.declared.dtype.PType.TheVariants.{I64}
 use Rattle.vx_fn.specs.Functions.{Function, get_item, select, fill_null, binary, cast, computes, is_remainder, Comparison, selection_names, included, branches, HasFittingLiteral}
 use Rattle.vx_fn.specs.declared.options.FieldSelection.{FieldSelection}
 use Rattle.vx_fn.specs.declared.options.FieldSelection.TheVariants.{Include, Exclude}
-use Rattle.vx_fn.specs.Rows.{FnType, of_case_else, of_case, of_get_item, of_literal, of_pack, of_select, of_fill_null, of_zip, of_comparison, of_and, of_or, of_arithmetic, of_float_arithmetic, of_decimal_arithmetic, of_not, of_between, of_like, of_is_null, of_is_not_null, of_mask, of_cast, of_starts_with, of_byte_length}
-use Rattle.vx_fn.specs.Values.{is_true, kleene_and, kleene_or, kleene_not, compared, agrees, order, bound_comparison, computed, liked, begun, counted_bytes, first_true, fn_value}
+use Rattle.vx_fn.specs.Rows.{FnType, of_case_else, of_case, of_get_item, of_literal, of_pack, of_select, of_fill_null, of_zip, of_comparison, of_and, of_or, of_arithmetic, of_float_arithmetic, of_decimal_arithmetic, of_not, of_between, of_like, of_is_null, of_is_not_null, of_mask, of_cast, of_starts_with, of_byte_length, of_list_contains}
+use Rattle.vx_fn.specs.Values.{is_true, kleene_and, kleene_or, kleene_not, compared, agrees, order, bound_comparison, computed, liked, begun, counted_bytes, has_element, has_null, among, contained, first_true, fn_value}
 use Rattle.vx_fn.specs.Faults.{has_fault, misfits, is_fillable, fill_of}
 
 -- the row doesn't make the node fault
@@ -97,6 +97,32 @@ counted-fits : (v : Datum) (n : Bool) → Fits v (ty (atomic text) n) → Fits (
 counted-fits null n e = e
 counted-fits (utf8 t) n e = cut_off (length t)
 counted-fits _ n e = cc
+
+-- ---- lists
+
+-- a list with a null has elements of a type with null
+holds_null : (ws : Data) (s : Shape) (k : Bool) → IsTrue (each_fits ws (ty s k)) → has_null ws ≡ true → k ≡ true
+holds_null no_datum s k e h = cc
+holds_null (datum w ws) s k e h =
+    let x = and_parts _ _ e in
+    elim (or_cases _ _ h) [ inl q ↦ null_of w s k q x.0 | inr q ↦ holds_null ws s k x.1 q ]
+
+among-fits : (ws : Data) (w : Datum) (s : Shape) (k n m : Bool) → IsTrue (each_fits ws (ty s k)) → Fits (among ws w) (ty (atomic truth) (n || k || m))
+among-fits ws w s k n m e = go (has_element ws w) (has_null ws) (holds_null ws s k e)
+  where
+    go : (a b : Bool) → (b ≡ true → k ≡ true) → Fits (if a then bool true else if b then null else bool false) (ty (atomic truth) (n || k || m))
+    go true b f = refl
+    go false true f = or_left (n || k) m (or_right n k (f refl))
+    go false false f = refl
+
+contained-fits : (v w : Datum) (p q : Atomic) (k n m : Bool) → Fits v (ty (list (ty (atomic p) k)) n) → Fits w (ty (atomic q) m) → Fits (contained v w) (ty (atomic truth) (n || k || m))
+contained-fits null w p q k n m e h = or_left (n || k) m (or_left n k e)
+contained-fits (list_of ws) w p q k n m e h = go (is_null_datum w) (λ x. null_of w (atomic q) m x h)
+  where
+    go : (b : Bool) → (b ≡ true → m ≡ true) → Fits (if b then null else among ws w) (ty (atomic truth) (n || k || m))
+    go true f = or_right (n || k) m (f refl)
+    go false f = among-fits ws w (atomic p) k n m e
+contained-fits _ w p q k n m e h = cc
 
 -- ---- arithmetic
 
@@ -241,3 +267,4 @@ fn_value-fits (of_mask {t = t}) lit safe (forall2_cons {x = v} e (forall2_cons {
 fn_value-fits (of_cast {u = u} s) lit safe (forall2_cons {x = v} e forall2_nil) = cast-fits u v safe
 fn_value-fits (of_starts_with {n = n} {m = m}) lit safe (forall2_cons {x = v} e (forall2_cons {x = w} h forall2_nil)) = begun-fits v w n m e h
 fn_value-fits (of_byte_length {n = n}) lit safe (forall2_cons {x = v} e forall2_nil) = counted-fits v n e
+fn_value-fits (of_list_contains {p = p} {q = q} {k = k} {n = n} {m = m} s) lit safe (forall2_cons {x = v} e (forall2_cons {x = w} h forall2_nil)) = contained-fits v w p q k n m e h

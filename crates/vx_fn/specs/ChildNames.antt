@@ -2,7 +2,7 @@
 use Rattle.std.specs.Prelude.{ℕ, ◌*◌, ◌/◌, ◌%◌, ◌==◌, ◌++◌, [], codes, get_or, if◌then◌else◌}
 use Rattle.std.specs.Fmt.{decimal}
 use Rattle.vx_value.specs.Types.{Name}
-use Rattle.vx_fn.specs.Functions.{Function, case_when, literal, pack, select, fill_null, zip, binary, between, like, mask, starts_with}
+use Rattle.vx_fn.specs.Functions.{Function, case_when, literal, pack, select, fill_null, zip, binary, between, like, mask, starts_with, list_contains}
 
 -- a word for the first child, and one for the second
 abbrev pub word_of_two : Name → Name → ℕ → Name
@@ -27,6 +27,7 @@ child_word (between lower_strict upper_strict) i = word_of_three (codes "array")
 child_word (like negated case_insensitive) i = word_of_two (codes "child") (codes "pattern") i
 child_word mask i = word_of_two (codes "input") (codes "mask") i
 child_word starts_with i = word_of_two (codes "input") (codes "prefix") i
+child_word list_contains i = word_of_two (codes "list") (codes "needle") i
 child_word _ i = codes "input"
 
 -- the name of the child at the index

@@ -13,7 +13,7 @@ use Rattle.vx_value.specs.Types.{Name}
 use Rattle.vx_fn.specs.declared.options.FieldSelection.{FieldSelection}
 use Rattle.vx_fn.specs.declared.options.FieldSelection.TheVariants.{Include, Exclude}
 use Rattle.vx_fn.specs.Equality.{operation_index, equal_names, equal_selection, equal_function, function_fed}
-use Rattle.vx_fn.specs.Functions.{Comparison, equal, not_equal, greater, greater_or_equal, less, less_or_equal, Operation, compares, and_also, or_else, computes, Function, case_when, get_item, literal, pack, select, fill_null, zip, binary, logical_not, between, like, is_null, is_not_null, mask, cast, starts_with, byte_length}
+use Rattle.vx_fn.specs.Functions.{Comparison, equal, not_equal, greater, greater_or_equal, less, less_or_equal, Operation, compares, and_also, or_else, computes, Function, case_when, get_item, literal, pack, select, fill_null, zip, binary, logical_not, between, like, is_null, is_not_null, mask, cast, starts_with, byte_length, list_contains}
 
 -- comparisons of one place are one
 comparison_inj : (c d : Comparison) → operation_index (compares c) ≡ operation_index (compares d) → c ≡ d
@@ -108,6 +108,7 @@ equal_function-Decides mask mask = itself
 equal_function-Decides (cast t) (cast u) = Decides-like _ (λ p. ap cast p) (λ p. cc) (equal_type-Decides t u)
 equal_function-Decides starts_with starts_with = itself
 equal_function-Decides byte_length byte_length = itself
+equal_function-Decides list_contains list_contains = itself
 equal_function-Decides _ _ = apart (λ p. cc)
 
 -- so it is an equivalence

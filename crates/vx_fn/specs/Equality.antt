@@ -11,7 +11,7 @@ use Rattle.vx_value.specs.Equality.{equal_type, equal_datum}
 use Rattle.vx_value.specs.Hashes.{type_fed, datum_fed}
 use Rattle.vx_fn.specs.declared.options.FieldSelection.{FieldSelection}
 use Rattle.vx_fn.specs.declared.options.FieldSelection.TheVariants.{Include, Exclude}
-use Rattle.vx_fn.specs.Functions.{equal, not_equal, greater, greater_or_equal, less, less_or_equal, Operation, compares, and_also, or_else, computes, Function, case_when, get_item, literal, pack, select, fill_null, zip, binary, logical_not, between, like, is_null, is_not_null, mask, cast, starts_with, byte_length}
+use Rattle.vx_fn.specs.Functions.{equal, not_equal, greater, greater_or_equal, less, less_or_equal, Operation, compares, and_also, or_else, computes, Function, case_when, get_item, literal, pack, select, fill_null, zip, binary, logical_not, between, like, is_null, is_not_null, mask, cast, starts_with, byte_length, list_contains}
 
 -- the operation's place among the thirteen
 abbrev pub operation_index : Operation → ℕ
@@ -58,6 +58,7 @@ equal_function mask mask = true
 equal_function (cast t) (cast u) = equal_type t u
 equal_function starts_with starts_with = true
 equal_function byte_length byte_length = true
+equal_function list_contains list_contains = true
 equal_function _ _ = false
 
 -- what a selection feeds to a hasher
@@ -84,6 +85,7 @@ function_index mask = 13
 function_index (cast t) = 14
 function_index starts_with = 15
 function_index byte_length = 16
+function_index list_contains = 17
 
 -- what a function's options feed to a hasher
 abbrev pub options_fed : Function → HashWrites

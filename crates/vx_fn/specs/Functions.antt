@@ -9,7 +9,7 @@ use Rattle.vx_floats.specs.declared.arithmetic.Arithmetic.{Arithmetic}
 use Rattle.vx_floats.specs.declared.arithmetic.Arithmetic.TheVariants.{Sum, Difference, Product, Remainder}
 use Rattle.vx_fn.specs.declared.options.FieldSelection.{FieldSelection}
 use Rattle.vx_value.specs.Returns.{known_or}
-use Rattle.vx_value.specs.Types.{Name, truth, number, floating, decimals, text, LogicalType, ty, atomic, struct, Fields, Datum, is_nullable, with_nullability}
+use Rattle.vx_value.specs.Types.{Name, truth, number, floating, decimals, text, LogicalType, ty, atomic, list, struct, Fields, Datum, is_nullable, with_nullability}
 use Rattle.vx_value.specs.Fits.{Fits}
 use Rattle.vx_value.specs.Joins.{same_base, union, union_of}
 pub use Rattle.vx_fn.specs.Selections.{selection_names, is_inclusion}
@@ -51,6 +51,7 @@ pub data Function : Type 0 where
   cast : LogicalType → Function
   starts_with : Function
   byte_length : Function
+  list_contains : Function
 
 -- the comparison for exchanged operands
 abbrev pub mirrored : Comparison → Comparison
@@ -201,6 +202,7 @@ arity_of (binary op) = 2
 arity_of (like negated case_insensitive) = 2
 arity_of mask = 2
 arity_of starts_with = 2
+arity_of list_contains = 2
 arity_of zip = 3
 arity_of (between ls us) = 3
 arity_of _ = 1
@@ -276,6 +278,22 @@ like_type t p = needs (is_text t && is_text p) NotText (Ok (truth_type (is_nulla
 abbrev pub length_type : LogicalType → Typing
 length_type t = needs (is_text t) NotText (Ok (ty (atomic (number I64)) (is_nullable t)))
 
+-- whether the first is a type of lists of the second's values, but for nullability
+abbrev pub is_list_of : LogicalType → LogicalType → Bool
+is_list_of (ty (list e) n) u = same_base e u
+is_list_of _ u = false
+
+-- whether a list of the type may be null, or an element of it
+abbrev pub may_hold_null : LogicalType → Bool
+may_hold_null (ty (list e) n) = n || is_nullable e
+may_hold_null _ = false
+
+-- the row of a search in a list
+abbrev pub contains_type : LogicalType → LogicalType → Typing
+contains_type t u =
+    needs (is_atomic u) NotComparable
+    (needs (is_list_of t u) BaseTypesDiffer (Ok (truth_type (may_hold_null t || is_nullable u))))
+
 -- the row of a mask
 abbrev pub mask_type : LogicalType → LogicalType → Typing
 mask_type t m = needs (is_truth m && not (is_nullable m)) NotBool (Ok (with_nullability true t))
@@ -307,6 +325,7 @@ fn_type mask = of_two mask_type
 fn_type (cast u) = of_one (cast_type u)
 fn_type starts_with = of_two like_type
 fn_type byte_length = of_one length_type
+fn_type list_contains = of_two contains_type
 
 -- the name of the function
 abbrev pub id_of : Function → List ℕ
@@ -327,3 +346,4 @@ id_of mask = codes "vortex.mask"
 id_of (cast t) = codes "vortex.cast"
 id_of starts_with = codes "vortex.starts_with"
 id_of byte_length = codes "vortex.byte_length"
+id_of list_contains = codes "vortex.list_contains"

@@ -12,8 +12,8 @@ use Rattle.vx_fn.specs.declared.options.Operator.{Operator}
 use Rattle.vx_fn.specs.declared.options.BetweenOptions.{BetweenOptions}
 use Rattle.vx_fn.specs.declared.options.LikeOptions.{LikeOptions}
 use Rattle.vx_fn.specs.declared.function.ScalarFnRef.{ScalarFnRef}
-use Rattle.vx_fn.specs.declared.function.ScalarFnRef.TheVariants.{CaseWhen, GetItem, Literal, Pack, Select, FillNull, Zip, Binary, Not, Between, Like, IsNull, IsNotNull, Mask, Cast, StartsWith, ByteLength}
-use Rattle.vx_fn.specs.Functions.{Function, case_when, get_item, literal, pack, select, fill_null, zip, binary, logical_not, between, like, is_null, is_not_null, mask, cast, starts_with, byte_length}
+use Rattle.vx_fn.specs.declared.function.ScalarFnRef.TheVariants.{CaseWhen, GetItem, Literal, Pack, Select, FillNull, Zip, Binary, Not, Between, Like, IsNull, IsNotNull, Mask, Cast, StartsWith, ByteLength, ListContains}
+use Rattle.vx_fn.specs.Functions.{Function, case_when, get_item, literal, pack, select, fill_null, zip, binary, logical_not, between, like, is_null, is_not_null, mask, cast, starts_with, byte_length, list_contains}
 use Rattle.vx_fn.specs.Views.{function_of}
 
 -- the options of a CASE
@@ -355,3 +355,23 @@ byte_length_exactly _ o = (λ e. cc, λ e. cc)
 pub byte_length_told : (f : ScalarFnRef) → is_some (byte_length_options f) ≡ is_byte_length (function_of f)
 byte_length_told (ByteLength p) = refl
 byte_length_told _ = refl
+
+-- the options of a search in a list
+abbrev pub list_contains_options : ScalarFnRef → Option EmptyOptions
+list_contains_options (ListContains o) = Some o
+list_contains_options _ = None
+
+-- whether the function is a search in a list
+abbrev pub is_list_contains : Function → Bool
+is_list_contains list_contains = true
+is_list_contains _ = false
+
+-- the options are `o` exactly where it is a search in a list with them
+pub list_contains_exactly : (f : ScalarFnRef) (o : EmptyOptions) → (list_contains_options f ≡ Some o) ↔ (f ≡ ListContains o)
+list_contains_exactly (ListContains p) o = (λ e. cc, λ e. cc)
+list_contains_exactly _ o = (λ e. cc, λ e. cc)
+
+-- there are options exactly where it is a search in a list
+pub list_contains_told : (f : ScalarFnRef) → is_some (list_contains_options f) ≡ is_list_contains (function_of f)
+list_contains_told (ListContains p) = refl
+list_contains_told _ = refl

@@ -4,7 +4,7 @@ use Rattle.vx_dtype.specs.declared.error.VortexError.{VortexError}
 use Rattle.vx_dtype.specs.declared.error.VortexError.TheVariants.{NoSuchField, BaseTypesDiffer}
 use Rattle.vx_value.specs.Returns.{Returns}
 use Rattle.vx_value.specs.Types.{LogicalType}
-use Rattle.vx_fn.specs.Functions.{Function, case_when, binary, logical_not, between, like, is_null, is_not_null, starts_with, byte_length, Typing}
+use Rattle.vx_fn.specs.Functions.{Function, case_when, binary, logical_not, between, like, is_null, is_not_null, starts_with, byte_length, list_contains, Typing}
 
 -- whether a node's type is a truth type or a number type, which is made without a copy
 abbrev pub is_typed_in_place : Function → Bool
@@ -16,6 +16,7 @@ is_typed_in_place is_null = true
 is_typed_in_place is_not_null = true
 is_typed_in_place starts_with = true
 is_typed_in_place byte_length = true
+is_typed_in_place list_contains = true
 is_typed_in_place _ = false
 
 -- whether the function refuses so before anything is copied: not where the refusal carries a copy of a name, nor

@@ -1,14 +1,14 @@
 -- The typing of a node as a relation: for each function the children's types it takes, and the type that it then has.
 use Rattle.std.specs.Prelude.{◌≡◌, ℕ, ◌==◌, Bool, true, false, ◌&&◌, ◌||◌, IsTrue, List, [], ◌∷◌, length, Some, None, not}
 use Rattle.std.specs.List.{list_all}
-use Rattle.vx_value.specs.Types.{Name, same_ptype, same_float_type, Atomic, truth, number, floating, decimals, text, same_atomic, LogicalType, ty, Shape, atomic, struct, Fields, Datum, is_nullable, with_nullability}
+use Rattle.vx_value.specs.Types.{Name, same_ptype, same_float_type, Atomic, truth, number, floating, decimals, text, same_atomic, LogicalType, ty, Shape, atomic, list, struct, Fields, Datum, is_nullable, with_nullability}
 use Rattle.vx_value.specs.Joins.{same_base, join, union_all}
 use Rattle.vx_value.specs.Fields.{field_type, project, first_unknown, fields_named}
 use Rattle.vx_floats.specs.declared.arithmetic.Arithmetic.{Arithmetic}
 use Rattle.vx_dtype.specs.declared.dtype.PType.{PType}
 use Rattle.vx_dtype.specs.declared.dtype.PType.TheVariants.{I64}
 use Rattle.vx_dtype.specs.declared.float_type.FloatType.{FloatType}
-use Rattle.vx_fn.specs.Functions.{Function, case_when, get_item, literal, pack, select, fill_null, zip, binary, logical_not, between, like, is_null, is_not_null, mask, cast, starts_with, byte_length, compares, and_also, or_else, computes, is_additive, is_remainder, Comparison, selection_names, included, case_children, conditions, branches, is_truth}
+use Rattle.vx_fn.specs.Functions.{Function, case_when, get_item, literal, pack, select, fill_null, zip, binary, logical_not, between, like, is_null, is_not_null, mask, cast, starts_with, byte_length, list_contains, compares, and_also, or_else, computes, is_additive, is_remainder, Comparison, selection_names, included, case_children, conditions, branches, is_truth}
 use Rattle.vx_fn.specs.declared.options.FieldSelection.{FieldSelection}
 
 -- a function over types of children, and the type that it then has
@@ -36,3 +36,4 @@ pub data FnType : Function → List LogicalType → LogicalType → Type 0 where
   of_cast : {t u : LogicalType} → IsTrue (same_base t u) → FnType (cast u) (t ∷ []) u
   of_starts_with : {n m : Bool} → FnType starts_with (ty (atomic text) n ∷ ty (atomic text) m ∷ []) (ty (atomic truth) (n || m))
   of_byte_length : {n : Bool} → FnType byte_length (ty (atomic text) n ∷ []) (ty (atomic (number I64)) n)
+  of_list_contains : {p q : Atomic} {k n m : Bool} → IsTrue (same_atomic p q) → FnType list_contains (ty (list (ty (atomic p) k)) n ∷ ty (atomic q) m ∷ []) (ty (atomic truth) (n || k || m))

@@ -9,9 +9,10 @@ use Rattle.std.specs.Cmp.Lexicographic.{slice_cmp}
 use Rattle.vx_floats.specs.Floats.{float_order, float_result}
 use Rattle.vx_floats.specs.declared.arithmetic.Arithmetic.{Arithmetic}
 use Rattle.vx_floats.specs.declared.arithmetic.Arithmetic.TheVariants.{Sum, Difference, Product, Quotient, Remainder}
-use Rattle.vx_value.specs.Types.{Name, LogicalType, ty, struct, Datum, null, bool, int, float, utf8, bytes, struct_of, is_null_datum}
+use Rattle.vx_value.specs.Types.{Name, LogicalType, ty, struct, Datum, null, bool, int, float, utf8, bytes, list_of, struct_of, Data, no_datum, datum, is_null_datum}
+use Rattle.vx_value.specs.Equality.{equal_datum}
 use Rattle.vx_value.specs.Fields.{field_value, project_values, data_of}
-use Rattle.vx_fn.specs.Functions.{Function, case_when, get_item, literal, pack, select, fill_null, zip, binary, logical_not, between, like, is_null, is_not_null, mask, cast, starts_with, byte_length, Operation, compares, and_also, or_else, computes, Comparison, equal, not_equal, greater, greater_or_equal, less, less_or_equal, included}
+use Rattle.vx_fn.specs.Functions.{Function, case_when, get_item, literal, pack, select, fill_null, zip, binary, logical_not, between, like, is_null, is_not_null, mask, cast, starts_with, byte_length, list_contains, Operation, compares, and_also, or_else, computes, Comparison, equal, not_equal, greater, greater_or_equal, less, less_or_equal, included}
 use Rattle.vx_fn.specs.declared.options.FieldSelection.{FieldSelection}
 
 -- whether the value is true
@@ -158,6 +159,27 @@ abbrev pub counted_bytes : Datum → Datum
 counted_bytes (utf8 t) = int (pos (min (length t) (2 ^ 63 - 1)))
 counted_bytes _ = null
 
+-- ---- lists
+
+-- whether some element is that value
+abbrev pub has_element : Data → Datum → Bool
+has_element no_datum v = false
+has_element (datum w ws) v = equal_datum w v || has_element ws v
+
+-- whether some element is null
+abbrev pub has_null : Data → Bool
+has_null no_datum = false
+has_null (datum w ws) = is_null_datum w || has_null ws
+
+-- whether the value is one of the elements; null where it is none, but might be one that is null
+abbrev pub among : Data → Datum → Datum
+among ws v = if has_element ws v then bool true else if has_null ws then null else bool false
+
+-- null for a null list or a null value, else whether the value is among the list's elements
+abbrev pub contained : Datum → Datum → Datum
+contained (list_of ws) v = if is_null_datum v then null else among ws v
+contained _ v = null
+
 -- ---- values at one row
 
 -- of conditions and values in turn, the value beside the first true condition, else the ELSE value, else null
@@ -217,3 +239,4 @@ fn_value mask ts = at_two (λ v m. if is_true m then v else null)
 fn_value (cast t) ts = at_one (λ v. v)
 fn_value starts_with ts = at_two begun
 fn_value byte_length ts = at_one counted_bytes
+fn_value list_contains ts = at_two contained

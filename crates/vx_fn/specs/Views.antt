@@ -7,8 +7,8 @@ use Rattle.vx_fn.specs.declared.options.Operator.TheVariants.{Eq, NotEq, Gt, Gte
 use Rattle.vx_fn.specs.declared.options.StrictComparison.{StrictComparison}
 use Rattle.vx_fn.specs.declared.options.StrictComparison.TheVariants.{Strict, NonStrict}
 use Rattle.vx_fn.specs.declared.function.ScalarFnRef.{ScalarFnRef}
-use Rattle.vx_fn.specs.declared.function.ScalarFnRef.TheVariants.{CaseWhen, GetItem, Literal, Pack, Select, FillNull, Zip, Binary, Not, Between, Like, IsNull, IsNotNull, Mask, Cast, StartsWith, ByteLength}
-use Rattle.vx_fn.specs.Functions.{Function, case_when, get_item, literal, pack, select, fill_null, zip, binary, logical_not, between, like, is_null, is_not_null, mask, cast, starts_with, byte_length, Operation, compares, and_also, or_else, computes, equal, not_equal, greater, greater_or_equal, less, less_or_equal}
+use Rattle.vx_fn.specs.declared.function.ScalarFnRef.TheVariants.{CaseWhen, GetItem, Literal, Pack, Select, FillNull, Zip, Binary, Not, Between, Like, IsNull, IsNotNull, Mask, Cast, StartsWith, ByteLength, ListContains}
+use Rattle.vx_fn.specs.Functions.{Function, case_when, get_item, literal, pack, select, fill_null, zip, binary, logical_not, between, like, is_null, is_not_null, mask, cast, starts_with, byte_length, list_contains, Operation, compares, and_also, or_else, computes, equal, not_equal, greater, greater_or_equal, less, less_or_equal}
 
 -- the operation of an operator
 abbrev pub operation_of : Operator → Operation
@@ -50,3 +50,4 @@ function_of (Mask o) = mask
 function_of (Cast t) = cast (type_of t)
 function_of (StartsWith o) = starts_with
 function_of (ByteLength o) = byte_length
+function_of (ListContains o) = list_contains

@@ -60,6 +60,8 @@ fn child_word(scalar_fn: &ScalarFnRef, index: usize) -> &'static str
         (ScalarFnRef::Mask(_), _) => "mask",
         (ScalarFnRef::StartsWith(_), 0) => "input",
         (ScalarFnRef::StartsWith(_), _) => "prefix",
+        (ScalarFnRef::ListContains(_), 0) => "list",
+        (ScalarFnRef::ListContains(_), _) => "needle",
         _ => "input",
     }
 }

@@ -63,6 +63,7 @@ impl ScalarFnRef {
             ScalarFnRef::Cast(_) => 14,
             ScalarFnRef::StartsWith(_) => 15,
             ScalarFnRef::ByteLength(_) => 16,
+            ScalarFnRef::ListContains(_) => 17,
         }
     }
 }
@@ -104,6 +105,7 @@ impl PartialEq for ScalarFnRef {
             (ScalarFnRef::Cast(a), ScalarFnRef::Cast(b)) => a == b,
             (ScalarFnRef::StartsWith(_), ScalarFnRef::StartsWith(_)) => true,
             (ScalarFnRef::ByteLength(_), ScalarFnRef::ByteLength(_)) => true,
+            (ScalarFnRef::ListContains(_), ScalarFnRef::ListContains(_)) => true,
             _ => false,
         }
     }

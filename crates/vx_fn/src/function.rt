@@ -47,6 +47,9 @@ pub enum ScalarFnRef {
     StartsWith(EmptyOptions),
     /// The number of a text's bytes.
     ByteLength(EmptyOptions),
+    /// Whether a value is among a list's elements, by SQL's rule for nulls: null of a null list or a
+    /// null value, and where the value is no element, but one is null.
+    ListContains(EmptyOptions),
 }
 
 impl Drop for ScalarFnRef {
@@ -68,7 +71,8 @@ impl Drop for ScalarFnRef {
             | ScalarFnRef::IsNotNull(_)
             | ScalarFnRef::Mask(_)
             | ScalarFnRef::StartsWith(_)
-            | ScalarFnRef::ByteLength(_) => {}
+            | ScalarFnRef::ByteLength(_)
+            | ScalarFnRef::ListContains(_) => {}
         }
     }
 }
@@ -95,6 +99,7 @@ impl Clone for ScalarFnRef {
             ScalarFnRef::Cast(dtype) => Ok(ScalarFnRef::Cast(dtype.clone()?)),
             ScalarFnRef::StartsWith(o) => Ok(ScalarFnRef::StartsWith(*o)),
             ScalarFnRef::ByteLength(o) => Ok(ScalarFnRef::ByteLength(*o)),
+            ScalarFnRef::ListContains(o) => Ok(ScalarFnRef::ListContains(*o)),
         }
     }
 }
@@ -124,6 +129,7 @@ impl ScalarFnRef {
             ScalarFnRef::Cast(_) => "vortex.cast",
             ScalarFnRef::StartsWith(_) => "vortex.starts_with",
             ScalarFnRef::ByteLength(_) => "vortex.byte_length",
+            ScalarFnRef::ListContains(_) => "vortex.list_contains",
         }
     }
 

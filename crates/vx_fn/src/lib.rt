@@ -19,7 +19,7 @@ pub use laws::{
 };
 pub use markers::{
     Between, Binary, ByteLength, CaseWhen, Cast, FillNull, GetItem, IsNotNull, IsNull, Like,
-    Literal, Mask, Not, Pack, ScalarFnVTable, Select, StartsWith, Zip,
+    ListContains, Literal, Mask, Not, Pack, ScalarFnVTable, Select, StartsWith, Zip,
 };
 pub use options::{
     BetweenOptions, CaseWhenOptions, EmptyOptions, FieldSelection, LikeOptions, Operator,

@@ -5,6 +5,7 @@ ghost use Rattle.vx_fn.specs.Views.{function_of};
 
 mod choices;
 mod fields;
+mod lists;
 mod operators;
 mod texts;
 mod values;
@@ -12,6 +13,7 @@ mod values;
 use crate::ScalarFnRef;
 pub use choices::{CaseWhen, FillNull, Mask, Zip};
 pub use fields::{GetItem, Pack, Select};
+pub use lists::ListContains;
 pub use operators::{Between, Binary, Like, Not};
 pub use texts::{ByteLength, StartsWith};
 pub use values::{Cast, IsNotNull, IsNull, Literal};

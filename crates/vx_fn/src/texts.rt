@@ -48,6 +48,7 @@ fn write_options<W: Write>(scalar_fn: &ScalarFnRef, f: &mut Formatter<W>) -> fmt
         ScalarFnRef::Cast(target) => target.fmt(f),
         ScalarFnRef::StartsWith(options) => options.fmt(f),
         ScalarFnRef::ByteLength(options) => options.fmt(f),
+        ScalarFnRef::ListContains(options) => options.fmt(f),
     }
 }
 

@@ -17,8 +17,8 @@ pub use fields::dtypes_of;
 use fields::{item_dtype, pack_dtype, select_dtype};
 pub(crate) use rows::is_atomic;
 use rows::{
-    between_dtype, binary_dtype, cast_dtype, fill_dtype, length_dtype, like_dtype, literal_dtype,
-    mask_dtype, not_dtype, truth_dtype, zip_dtype,
+    between_dtype, binary_dtype, cast_dtype, contains_dtype, fill_dtype, length_dtype, like_dtype,
+    literal_dtype, mask_dtype, not_dtype, truth_dtype, zip_dtype,
 };
 use std::alloc::Global;
 use vx_types::{DType, VortexError, VortexResult};
@@ -46,6 +46,7 @@ impl ScalarFnRef {
             ScalarFnRef::Cast(_) => 1,
             ScalarFnRef::StartsWith(_) => 2,
             ScalarFnRef::ByteLength(_) => 1,
+            ScalarFnRef::ListContains(_) => 2,
         }
     }
 
@@ -63,11 +64,13 @@ impl ScalarFnRef {
     /// - `Binary`, arithmetic: `NotNumeric` (9) at a type of no numbers, at decimals that are neither
     ///   added nor subtracted, or at the remainder of floats, `BaseTypesDiffer` (6).
     /// - `Like`, `StartsWith` and `ByteLength`: `NotText` (10).
+    /// - `ListContains`: `NotComparable` (8) at a needle that is a list or a struct, `BaseTypesDiffer`
+    ///   (6) where the other is no list of such values.
     /// - `Mask`: `NotBool` (7) at a mask of another type or a nullable one.
     ///
     /// `OutOfMemory` (1) comes only where something is copied: never for `Binary`, `Not`,
-    /// `Between`, `Like`, `IsNull`, `IsNotNull`, `StartsWith` and `ByteLength`, and in place of another
-    /// refusal only where that is `NoSuchField`, or `BaseTypesDiffer` of `CaseWhen`.
+    /// `Between`, `Like`, `IsNull`, `IsNotNull`, `StartsWith`, `ByteLength` and `ListContains`, and in
+    /// place of another refusal only where that is `NoSuchField`, or `BaseTypesDiffer` of `CaseWhen`.
     pub fn return_dtype(&self, alloc: Global, types: &[DType]) -> VortexResult<DType>
         ensures typed { ReturnsOrOom type_of result (fn_type (function_of self.now) (map type_of types.now)) }
         ensures literal { IfOk result (λ _. HasFittingLiteral (function_of self.now)) }
@@ -127,6 +130,9 @@ impl ScalarFnRef {
                 like_dtype(input.as_dtype(), prefix.as_dtype())
             },
             (ScalarFnRef::ByteLength(_), [input]) => length_dtype(input.as_dtype()),
+            (ScalarFnRef::ListContains(_), [list, needle]) => {
+                contains_dtype(list.as_dtype(), needle.as_dtype())
+            },
             (ScalarFnRef::IsNull(_) | ScalarFnRef::IsNotNull(_), [_]) => Ok(truth_dtype(false)),
             (ScalarFnRef::Mask(_), [input, mask]) => mask_dtype(input.as_dtype(), mask.as_dtype()),
             (ScalarFnRef::Cast(target), [input]) => cast_dtype(target, input.as_dtype()),

@@ -4,7 +4,7 @@ ghost use Rattle.vx_value.specs.Returns.{ReturnsOrOom, Returns};
 ghost use Rattle.vx_value.specs.Fits.{Fits};
 ghost use Rattle.vx_value.specs.Types.{with_nullability};
 ghost use Rattle.vx_value.specs.Views.{admits_null, type_of};
-ghost use Rattle.vx_fn.specs.Functions.{fill_null, zip, mask as mask_function, cast, is_truth, is_text, is_number, is_number_for, is_additive, is_atomic, truth_type, binary_type, comparison_type, logic_type, arithmetic_type, fill_type, zip_type, not_type, between_type, like_type, length_type, mask_type, cast_type};
+ghost use Rattle.vx_fn.specs.Functions.{fill_null, zip, mask as mask_function, cast, is_truth, is_text, is_number, is_number_for, is_additive, is_atomic, truth_type, binary_type, comparison_type, logic_type, arithmetic_type, fill_type, zip_type, not_type, between_type, like_type, length_type, contains_type, is_list_of, may_hold_null, mask_type, cast_type};
 ghost use Rattle.vx_fn.specs.Memory.{RefusesEarly};
 ghost use Rattle.vx_fn.specs.Views.{operation_of};
 
@@ -165,6 +165,38 @@ pub(super) fn length_dtype(t: &DType) -> VortexResult<DType>
     match t {
         DType::Utf8(n) => Ok(DType::Primitive(PType::I64, *n)),
         _ => Err(VortexError::NotText),
+    }
+}
+
+pub(super) fn contains_dtype(t: &DType, needle: &DType) -> VortexResult<DType>
+    ensures { Returns type_of result (contains_type (type_of t.now) (type_of needle.now)) }
+{
+    if !is_atomic(needle) {
+        return Err(VortexError::NotComparable);
+    }
+    if !is_list_of(t, needle) {
+        return Err(VortexError::BaseTypesDiffer);
+    }
+    Ok(truth_dtype(may_hold_null(t) || needle.is_nullable()))
+}
+
+// Whether the first is a type of lists of the second's values, but for nullability.
+fn is_list_of(t: &DType, u: &DType) -> bool
+    ensures { result ≡ is_list_of (type_of t.now) (type_of u.now) }
+{
+    match t {
+        DType::List(element, _) => element.as_ref().eq_ignore_nullability(u),
+        _ => false,
+    }
+}
+
+// Whether a list of the type may be null, or an element of it.
+fn may_hold_null(t: &DType) -> bool
+    ensures { result ≡ may_hold_null (type_of t.now) }
+{
+    match t {
+        DType::List(element, n) => n.admits_null() || element.as_ref().is_nullable(),
+        _ => false,
     }
 }
 
