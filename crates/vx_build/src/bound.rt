@@ -12,6 +12,7 @@ mod collects;
 
 pub use crate::choices::{case_when, case_when_no_else, mask, nested_case_when, zip_expr};
 pub use crate::fields::{get_item, pack, select, select_exclude};
+pub use crate::lists::list_contains;
 pub use crate::nulls::{fill_null, is_not_null, is_null};
 pub use crate::operators::{
     and, between, binary, checked_add, checked_div, checked_mul, checked_rem, checked_sub, eq, gt,

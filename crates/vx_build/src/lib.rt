@@ -6,6 +6,7 @@ mod choices;
 mod collects;
 mod fields;
 mod laws;
+mod lists;
 mod node;
 mod nulls;
 mod operands;
@@ -18,6 +19,7 @@ pub use choices::{case_when, case_when_no_else, mask, nested_case_when, zip_expr
 pub use collects::{and_collect, or_collect};
 pub use fields::{col, get_item, is_root, pack, root, select, select_exclude};
 pub use laws::{collects_join_in_order, collects_take_truths_alone};
+pub use lists::list_contains;
 pub use nulls::{fill_null, is_not_null, is_null};
 pub use operands::case_operands;
 pub use operators::{

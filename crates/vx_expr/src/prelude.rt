@@ -48,6 +48,7 @@ pub use crate::expr::is_not_null;
 pub use crate::expr::is_null;
 pub use crate::expr::is_root;
 pub use crate::expr::like;
+pub use crate::expr::list_contains;
 pub use crate::expr::lit;
 pub use crate::expr::lt;
 pub use crate::expr::lt_eq;

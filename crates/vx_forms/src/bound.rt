@@ -11,6 +11,7 @@ ghost use Rattle.vx_forms.specs.Collected.{CollectsGiven};
 
 pub use crate::choices::{case_when, case_when_no_else, mask, nested_case_when, zip_expr};
 pub use crate::fields::{get_item, pack, select, select_exclude};
+pub use crate::lists::list_contains;
 use crate::names::IntoFieldName;
 pub use crate::nulls::{fill_null, is_not_null, is_null};
 use crate::operands::{Operand, trees_given};

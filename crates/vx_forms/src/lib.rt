@@ -8,6 +8,7 @@ mod collects;
 mod columns;
 mod fields;
 mod floating_numbers;
+mod lists;
 mod literals;
 mod macros;
 mod names;
@@ -28,6 +29,7 @@ pub use choices::{case_when, case_when_no_else, mask, nested_case_when, zip_expr
 pub use collects::{and_collect, or_collect};
 pub use columns::{column, column_of, struct_column};
 pub use fields::{col, get_item, pack, select, select_exclude};
+pub use lists::list_contains;
 pub use literals::{date, decimal, timestamp};
 pub use names::{IntoFieldName, IntoFieldNames};
 pub use native::Native;

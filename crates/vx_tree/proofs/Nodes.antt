@@ -6,7 +6,7 @@ use Rattle.std.proofs.Math.Bool.{and-false}
 use Rattle.vx_dtype.specs.declared.error.VortexError.{VortexError}
 use Rattle.vx_dtype.specs.declared.error.VortexError.TheVariants.{ArityMismatch, RootChildren}
 use Rattle.vx_value.specs.Types.{LogicalType}
-use Rattle.vx_fn.specs.Functions.{Function, case_when, get_item, literal, pack, select, fill_null, zip, binary, logical_not, between, like, is_null, is_not_null, mask, cast, starts_with, byte_length, Typing, fn_type, arity_of, of_one, of_two, of_three, of_many, case_children, case_type, pack_type}
+use Rattle.vx_fn.specs.Functions.{Function, case_when, get_item, literal, pack, select, fill_null, zip, binary, logical_not, between, like, is_null, is_not_null, mask, cast, starts_with, byte_length, list_contains, Typing, fn_type, arity_of, of_one, of_two, of_three, of_many, case_children, case_type, pack_type}
 use Rattle.vx_tree.specs.declared.expression.Expression.{Expression}
 use Rattle.vx_tree.specs.declared.bound.BoundExpression.{BoundExpression}
 use Rattle.vx_tree.specs.Binding.{node_over}
@@ -109,6 +109,7 @@ fn_type-other mask ts h = of_two-other _ ts h
 fn_type-other (cast u) ts h = of_one-other _ ts h
 fn_type-other starts_with ts h = of_two-other _ ts h
 fn_type-other byte_length ts h = of_one-other _ ts h
+fn_type-other list_contains ts h = of_two-other _ ts h
 
 node_over-length : (f : Function) (bs : List BoundExpression) → length bs ≢ arity_of f → node_over f (bounds_of bs) ≡ Err (ArityMismatch (arity_of f) (length bs))
 node_over-length f bs h =

@@ -41,10 +41,10 @@ pub use scope::Scope;
 pub use typing::push_type_over;
 pub use vx_fn::{
     Between, BetweenOptions, Binary, ByteLength, CaseWhen, CaseWhenOptions, Cast, ChildName,
-    EmptyOptions, FieldSelection, FillNull, GetItem, IsNotNull, IsNull, Like, LikeOptions, Literal,
-    Mask, Not, Operator, Pack, PackOptions, ScalarFnRef, ScalarFnVTable, Select, StartsWith,
-    StrictComparison, Zip, matches_is_decided, swapped_over_exchanged_operands, typing_is_monotone,
-    typing_is_the_relation, write_names,
+    EmptyOptions, FieldSelection, FillNull, GetItem, IsNotNull, IsNull, Like, LikeOptions,
+    ListContains, Literal, Mask, Not, Operator, Pack, PackOptions, ScalarFnRef, ScalarFnVTable,
+    Select, StartsWith, StrictComparison, Zip, matches_is_decided, swapped_over_exchanged_operands,
+    typing_is_monotone, typing_is_the_relation, write_names,
 };
 pub use vx_types::{
     Column, DType, Field, FieldName, FieldNames, FieldPath, FieldPathSet, Nullability, PType,

@@ -117,7 +117,8 @@ fn write_own<N: Notation, T: TreeNode, W: Write>(
         | ScalarFnRef::IsNotNull(_)
         | ScalarFnRef::Mask(_)
         | ScalarFnRef::StartsWith(_)
-        | ScalarFnRef::ByteLength(_) => write_call(notation, scalar_fn, children, f),
+        | ScalarFnRef::ByteLength(_)
+        | ScalarFnRef::ListContains(_) => write_call(notation, scalar_fn, children, f),
     }
 }
 
