@@ -8,7 +8,7 @@ use Rattle.vx_dtype.specs.declared.error.VortexError.TheVariants.{OutOfMemory}
 use Rattle.vx_value.specs.Columns.{Batch, batch}
 use Rattle.vx_value.specs.Types.{LogicalType, Datum}
 use Rattle.vx_fn.specs.Faults.{node_fault}
-use Rattle.vx_fn.specs.Functions.{Function, case_when, get_item, literal, pack, select, fill_null, zip, binary, logical_not, between, like, is_null, is_not_null, mask, cast, starts_with, byte_length, compares, and_also, or_else, computes}
+use Rattle.vx_fn.specs.Functions.{Function, case_when, get_item, literal, pack, select, fill_null, zip, binary, logical_not, between, like, is_null, is_not_null, mask, cast, starts_with, byte_length, list_contains, compares, and_also, or_else, computes}
 use Rattle.vx_tree.specs.Faults.{HasNoFault, first_fault, each_fault}
 use Rattle.vx_tree.specs.Meaning.{mean, value}
 use Rattle.vx_tree.specs.Nodes.{bound_children_of, function_at}
@@ -95,6 +95,7 @@ never_faults is_null ts rows h = refl
 never_faults is_not_null ts rows h = refl
 never_faults starts_with ts rows h = refl
 never_faults byte_length ts rows h = refl
+never_faults list_contains ts rows h = refl
 never_faults mask ts rows h = refl
 never_faults (cast t) ts rows h = cc
 

@@ -7,8 +7,8 @@ use Rattle.vx_value.specs.Fits.{Fits, EachFits}
 use Rattle.vx_value.specs.Types.{Name, number, decimals, LogicalType, ty, atomic, struct, Fields, Datum, null, bool, struct_of, is_null_datum}
 use Rattle.vx_dtype.specs.Lists.{Forall2, forall2_nil, forall2_cons}
 use Rattle.vx_fn.specs.Functions.{Function}
-use Rattle.vx_fn.specs.Rows.{FnType, of_case_else, of_case, of_get_item, of_literal, of_pack, of_select, of_fill_null, of_zip, of_comparison, of_and, of_or, of_arithmetic, of_float_arithmetic, of_decimal_arithmetic, of_not, of_between, of_like, of_is_null, of_is_not_null, of_mask, of_cast, of_starts_with, of_byte_length}
-use Rattle.vx_fn.specs.Values.{begun, bound_comparison, compared, fn_value, item_value, kleene_and, kleene_not, kleene_or, liked, select_value}
+use Rattle.vx_fn.specs.Rows.{FnType, of_case_else, of_case, of_get_item, of_literal, of_pack, of_select, of_fill_null, of_zip, of_comparison, of_and, of_or, of_arithmetic, of_float_arithmetic, of_decimal_arithmetic, of_not, of_between, of_like, of_is_null, of_is_not_null, of_mask, of_cast, of_starts_with, of_byte_length, of_list_contains}
+use Rattle.vx_fn.specs.Values.{begun, bound_comparison, compared, contained, fn_value, item_value, kleene_and, kleene_not, kleene_or, liked, select_value}
 use Rattle.vx_fn.specs.declared.options.FieldSelection.{FieldSelection}
 use Rattle.vx_prune_bounds.proofs.Contained.{contains-exactly}
 use Rattle.vx_prune_bounds.proofs.Sounds.{truths_in-sound, truth_bounds-sound, not-sound, and-sound, or-sound, comparison-sound, between-sound, fill-sound, choice-sound, mask-sound, case-sound, is_null-sound, is_not_null-sound, shaped_as-sound}
@@ -80,3 +80,4 @@ fn_bounds-sound (of_cast s) (forall2_cons e forall2_nil) (forall2_cons h forall2
 fn_bounds-sound (of_starts_with {n = n} {m = m}) (forall2_cons {x = v} e (forall2_cons {x = w} f forall2_nil)) (forall2_cons {x = x} h (forall2_cons {x = y} g forall2_nil)) =
     truth_bounds-sound (begun_truths x y) (begun v w) (begun-sound x y v w n m e f h g)
 fn_bounds-sound (of_byte_length {n = n}) (forall2_cons {x = v} e forall2_nil) (forall2_cons {x = x} h forall2_nil) = length-sound n x v e h
+fn_bounds-sound (of_list_contains s) (forall2_cons {x = v} e (forall2_cons {x = w} f forall2_nil)) (forall2_cons {x = x} h (forall2_cons {x = y} g forall2_nil)) = in-unknown (contained v w)

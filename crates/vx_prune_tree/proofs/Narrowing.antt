@@ -4,7 +4,7 @@ use Rattle.std.specs.Prelude.{◌==◌, if◌then◌else◌, not}
 use Rattle.vx_value.specs.Paths.{Path}
 use Rattle.vx_value.specs.Types.{LogicalType}
 use Rattle.vx_dtype.specs.Lists.{Forall2, forall2_nil, forall2_cons}
-use Rattle.vx_fn.specs.Functions.{Function, case_when, get_item, literal, pack, select, fill_null, zip, binary, logical_not, between, like, is_null, is_not_null, mask, cast, starts_with, byte_length, Operation, compares, and_also, or_else, computes}
+use Rattle.vx_fn.specs.Functions.{Function, case_when, get_item, literal, pack, select, fill_null, zip, binary, logical_not, between, like, is_null, is_not_null, mask, cast, starts_with, byte_length, list_contains, Operation, compares, and_also, or_else, computes}
 use Rattle.vx_tree.specs.Trees.{BoundTree, scope, node, BoundTrees, no_bound, bound}
 use Rattle.vx_prune_bounds.proofs.Contained.{any_of-proper, exactly-proper, from_within, within, within-refl}
 use Rattle.vx_prune_bounds.proofs.Lattice.{meet-mono, meet-proper}
@@ -86,6 +86,7 @@ fn_bounds-mono mask a = two-mono _ (λ x y n v w k. mask-mono x y (truths_in v) 
 fn_bounds-mono (cast u) a = one-mono _ (λ x y n. n.0) a
 fn_bounds-mono starts_with a = two-mono _ (λ x y n v w k. truth_bounds-mono (begun_truths x v) (begun_truths y w) (begun-mono x y v w n.0 k.0 k.1)) a
 fn_bounds-mono byte_length a = one-mono _ (λ x y n. length-mono x y n.0) a
+fn_bounds-mono list_contains a = two-mono _ (λ x y n v w k. refl) a
 
 -- ---- trees
 

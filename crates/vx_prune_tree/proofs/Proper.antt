@@ -2,7 +2,7 @@
 use Rattle.std.proofs.Common.{◌≡◌, List, [], ◌∷◌, refl, sym, subst, true, Some}
 use Rattle.std.specs.Prelude.{is_some}
 use Rattle.vx_value.specs.Paths.{Path}
-use Rattle.vx_fn.specs.Functions.{Function, case_when, get_item, literal, pack, select, fill_null, zip, binary, logical_not, between, like, is_null, is_not_null, mask, cast, starts_with, byte_length, Operation, compares, and_also, or_else, computes}
+use Rattle.vx_fn.specs.Functions.{Function, case_when, get_item, literal, pack, select, fill_null, zip, binary, logical_not, between, like, is_null, is_not_null, mask, cast, starts_with, byte_length, list_contains, Operation, compares, and_also, or_else, computes}
 use Rattle.vx_tree.specs.Trees.{BoundTree, scope, node, BoundTrees, no_bound, bound}
 use Rattle.vx_prune_bounds.proofs.Contained.{exactly-proper, implied}
 use Rattle.vx_prune_bounds.proofs.Lattice.{meet-proper}
@@ -63,6 +63,7 @@ fn_bounds-proper mask xs p = two-proper _ (λ x m q r. mask-proper x (truths_in 
 fn_bounds-proper (cast u) xs p = one-proper _ (λ x q. q) xs p
 fn_bounds-proper starts_with xs p = two-proper _ (λ x y q r. truth_bounds-proper (begun_truths x y)) xs p
 fn_bounds-proper byte_length xs p = one-proper _ (λ x q. length-proper x) xs p
+fn_bounds-proper list_contains xs p = two-proper _ (λ x y q r. refl) xs p
 
 -- ---- trees
 

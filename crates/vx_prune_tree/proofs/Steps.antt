@@ -6,7 +6,7 @@ use Rattle.std.specs.declared.sync.Arc.{Arc}
 use Rattle.std.proofs.lemmas.List.{drop_more}
 use Rattle.vx_value.specs.Paths.{Path}
 use Rattle.vx_value.specs.Types.{LogicalType}
-use Rattle.vx_fn.specs.Functions.{Function, case_when, get_item, literal, pack, select, fill_null, zip, binary, logical_not, between, like, is_null, is_not_null, mask, cast, starts_with, byte_length}
+use Rattle.vx_fn.specs.Functions.{Function, case_when, get_item, literal, pack, select, fill_null, zip, binary, logical_not, between, like, is_null, is_not_null, mask, cast, starts_with, byte_length, list_contains}
 use Rattle.vx_tree.proofs.Held.{bound_of-Scalar}
 use Rattle.vx_tree.specs.Trees.{BoundTree, scope, node, node_type}
 use Rattle.vx_tree.specs.Views.{bound_of, bounds_of}
@@ -81,6 +81,7 @@ many-unknown facts mask (a ∷ b ∷ c ∷ d ∷ bs) k h = refl
 many-unknown facts (cast u) (a ∷ b ∷ c ∷ d ∷ bs) k h = refl
 many-unknown facts starts_with (a ∷ b ∷ c ∷ d ∷ bs) k h = refl
 many-unknown facts byte_length (a ∷ b ∷ c ∷ d ∷ bs) k h = refl
+many-unknown facts list_contains (a ∷ b ∷ c ∷ d ∷ bs) k h = refl
 
 -- one pair more, in front of those that a CASE was gone through
 pub case-more : (facts : Facts) (bs : List BoundExpression) (i j : ℕ) (c v : BoundExpression) (m : Truths) (r y z : Bounds) → i + 1 < length bs → j ≡ i + 1 + 1 → c ≡ get_or bs i c → v ≡ get_or bs (i + 1) v →

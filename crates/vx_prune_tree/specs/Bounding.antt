@@ -1,7 +1,7 @@
 -- Bounds of a tree's values in a chunk of which something is known.
 use Rattle.std.specs.Prelude.{true, false, List, [], ◌∷◌, ◌++◌, Option, Some, None, option_map}
 use Rattle.vx_value.specs.Paths.{Path}
-use Rattle.vx_fn.specs.Functions.{Function, case_when, get_item, literal, pack, select, fill_null, zip, binary, logical_not, between, like, is_null, is_not_null, mask, cast, starts_with, byte_length, Operation, compares, and_also, or_else, computes}
+use Rattle.vx_fn.specs.Functions.{Function, case_when, get_item, literal, pack, select, fill_null, zip, binary, logical_not, between, like, is_null, is_not_null, mask, cast, starts_with, byte_length, list_contains, Operation, compares, and_also, or_else, computes}
 use Rattle.vx_tree.specs.Trees.{BoundTree, scope, node, BoundTrees, no_bound, bound}
 use Rattle.vx_prune_bounds.specs.Bounds.{Bounds, bounds, any_of, exactly, meet}
 use Rattle.vx_prune_bounds.specs.Truths.{truths_in, truth_bounds, not_truths, and_truths, or_truths}
@@ -32,6 +32,7 @@ item_path mask child = None
 item_path (cast u) child = None
 item_path starts_with child = None
 item_path byte_length child = None
+item_path list_contains child = None
 
 -- the path whose values the tree's are: of the scope root the root path, and of a field of such a tree the path behind it
 abbrev mutual
@@ -99,6 +100,7 @@ fn_bounds mask = of_two (λ x m. mask_bounds x (truths_in m))
 fn_bounds (cast u) = of_one (λ x. x)
 fn_bounds starts_with = of_two (λ x p. truth_bounds (begun_truths x p))
 fn_bounds byte_length = of_one length_bounds
+fn_bounds list_contains = of_two (λ x y. unknown)
 
 -- ---- trees
 

@@ -1,7 +1,7 @@
 -- What the code tells apart on its way.
 use Rattle.std.specs.Prelude.{Bool, true, false, Option, Some, None}
 use Rattle.vx_value.specs.Paths.{Path, equal_path}
-use Rattle.vx_fn.specs.Functions.{Function, case_when, get_item, literal, pack, select, fill_null, zip, binary, logical_not, between, like, is_null, is_not_null, mask, cast, starts_with, byte_length}
+use Rattle.vx_fn.specs.Functions.{Function, case_when, get_item, literal, pack, select, fill_null, zip, binary, logical_not, between, like, is_null, is_not_null, mask, cast, starts_with, byte_length, list_contains}
 
 -- whether there is a path, and it is that one
 abbrev pub is_that_path : Option Path → Path → Bool
@@ -27,3 +27,4 @@ is_of_children mask = true
 is_of_children (cast u) = true
 is_of_children starts_with = true
 is_of_children byte_length = true
+is_of_children list_contains = true

@@ -29,6 +29,7 @@ fn is_computed(scalar_fn: &ScalarFnRef) -> bool
         ScalarFnRef::IsNull(_) | ScalarFnRef::IsNotNull(_) | ScalarFnRef::FillNull(_) => true,
         ScalarFnRef::Like(_) | ScalarFnRef::Mask(_) | ScalarFnRef::Cast(_) => true,
         ScalarFnRef::StartsWith(_) | ScalarFnRef::ByteLength(_) => true,
+        ScalarFnRef::ListContains(_) => true,
         ScalarFnRef::CaseWhen(_) | ScalarFnRef::Zip(_) | ScalarFnRef::Literal(_) => false,
         ScalarFnRef::GetItem(_) | ScalarFnRef::Pack(_) | ScalarFnRef::Select(_) => false,
     }

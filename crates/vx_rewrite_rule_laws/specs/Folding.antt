@@ -5,7 +5,7 @@ use Rattle.std.specs.Result.{result_ok}
 use Rattle.vx_value.specs.Equality.{equal_type}
 use Rattle.vx_eval_like.specs.Beginnings.{beginning_of}
 use Rattle.vx_value.specs.Types.{LogicalType, Datum, null, bool, utf8, is_nullable, is_null_datum}
-use Rattle.vx_fn.specs.Functions.{Function, case_when, get_item, literal, pack, select, zip, fill_null, binary, logical_not, between, like, is_null, is_not_null, mask, cast, starts_with, byte_length, compares, and_also, or_else, truth_type}
+use Rattle.vx_fn.specs.Functions.{Function, case_when, get_item, literal, pack, select, zip, fill_null, binary, logical_not, between, like, is_null, is_not_null, mask, cast, starts_with, byte_length, list_contains, compares, and_also, or_else, truth_type}
 use Rattle.vx_fn.specs.Values.{is_true}
 use Rattle.vx_tree.specs.Binding.{node_over}
 use Rattle.vx_tree.specs.Equality.{equal_bound}
@@ -48,6 +48,7 @@ is_computed mask = true
 is_computed (cast t) = true
 is_computed starts_with = true
 is_computed byte_length = true
+is_computed list_contains = true
 is_computed (case_when pairs has_else) = false
 is_computed (get_item a) = false
 is_computed (literal t c) = false
