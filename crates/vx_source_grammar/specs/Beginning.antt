@@ -3,7 +3,7 @@ use Rattle.std.specs.Prelude.{ℕ, pos, zero, suc, ◌+◌, ◌==◌, if◌then�
 use Rattle.std.specs.Str.{bytes_eq}
 use Rattle.vx_value.specs.Columns.{Constant}
 use Rattle.vx_value.specs.Types.{Name, LogicalType, int}
-use Rattle.vx_fn.specs.Functions.{Function, literal, get_item, pack, cast, fill_null, zip, is_null, is_not_null, mask, starts_with, byte_length}
+use Rattle.vx_fn.specs.Functions.{Function, literal, get_item, pack, cast, fill_null, zip, is_null, is_not_null, mask, starts_with, byte_length, list_contains}
 use Rattle.vx_tree.specs.Trees.{Tree, root}
 use Rattle.vx_source_types.specs.declared.expectation.Expected.{Expected}
 use Rattle.vx_source_types.specs.declared.expectation.Expected.TheVariants.{Operand, OperandOrParens, Name as AName, FieldValue, FittingType, Function as AFunction, Options, OpenParen as AParen, CloseParen as TheParen, CloseBracket as TheBracket, When as WhenWord}
@@ -120,7 +120,7 @@ minus_at plain fs r x = when_read (λ z. begins (in_minus z ∷ fs) r x) (zero_r
 
 -- what is called by a name of its own
 abbrev pub callees : List (List ℕ × Callee)
-callees = (codes "zip", own_of zip) ∷ (codes "coalesce", own_of fill_null) ∷ (codes "fill_null", own_of fill_null) ∷ (codes "mask", own_of mask) ∷ (codes "is_null", own_of is_null) ∷ (codes "is_not_null", own_of is_not_null) ∷ (codes "starts_with", own_of starts_with) ∷ (codes "byte_length", own_of byte_length) ∷ (codes "if", if_of) ∷ []
+callees = (codes "zip", own_of zip) ∷ (codes "coalesce", own_of fill_null) ∷ (codes "fill_null", own_of fill_null) ∷ (codes "mask", own_of mask) ∷ (codes "is_null", own_of is_null) ∷ (codes "is_not_null", own_of is_not_null) ∷ (codes "starts_with", own_of starts_with) ∷ (codes "byte_length", own_of byte_length) ∷ (codes "list_contains", own_of list_contains) ∷ (codes "if", if_of) ∷ []
 
 -- inside the bracket behind a name
 abbrev pub call_begins : List Frame → ℕ → Option Callee → ℕ → ExpressionAnswer

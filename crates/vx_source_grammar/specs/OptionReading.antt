@@ -4,7 +4,7 @@ use Rattle.vx_value.specs.Types.{Name}
 use Rattle.vx_fn.specs.declared.options.FieldSelection.{FieldSelection}
 use Rattle.vx_fn.specs.declared.options.FieldSelection.TheVariants.{Include, Exclude}
 use Rattle.vx_floats.specs.declared.arithmetic.Arithmetic.TheVariants.{Sum, Difference, Product, Quotient, Remainder}
-use Rattle.vx_fn.specs.Functions.{equal, not_equal, greater, greater_or_equal, less, less_or_equal, Operation, compares, and_also, or_else, computes, Function, case_when, get_item, literal, pack, select, fill_null, zip, binary, logical_not, between, like, is_null, is_not_null, mask, cast, starts_with, byte_length}
+use Rattle.vx_fn.specs.Functions.{equal, not_equal, greater, greater_or_equal, less, less_or_equal, Operation, compares, and_also, or_else, computes, Function, case_when, get_item, literal, pack, select, fill_null, zip, binary, logical_not, between, like, is_null, is_not_null, mask, cast, starts_with, byte_length, list_contains}
 use Rattle.vx_source_types.specs.declared.expectation.Expected.{Expected}
 use Rattle.vx_source_types.specs.declared.expectation.Expected.TheVariants.{CloseBracket as TheBracket, Options}
 use Rattle.vx_source_types.specs.declared.token.Sign.TheVariants.{OpenParen, CloseParen, OpenBracket, CloseBracket, OpenBrace, CloseBrace, Comma, Colon, Tilde, Equal, DoubleEqual, NotEqual, Less, LessEqual, Greater, GreaterEqual, Plus, Minus, Star, Slash, Percent}
@@ -17,7 +17,7 @@ use Rattle.vx_source_grammar.specs.Keywords.{beside}
 
 -- the functions without options
 abbrev pub plain_functions : List (List ℕ × Function)
-plain_functions = (codes "not", logical_not) ∷ (codes "is_null", is_null) ∷ (codes "is_not_null", is_not_null) ∷ (codes "fill_null", fill_null) ∷ (codes "mask", mask) ∷ (codes "zip", zip) ∷ (codes "starts_with", starts_with) ∷ (codes "byte_length", byte_length) ∷ []
+plain_functions = (codes "not", logical_not) ∷ (codes "is_null", is_null) ∷ (codes "is_not_null", is_not_null) ∷ (codes "fill_null", fill_null) ∷ (codes "mask", mask) ∷ (codes "zip", zip) ∷ (codes "starts_with", starts_with) ∷ (codes "byte_length", byte_length) ∷ (codes "list_contains", list_contains) ∷ []
 
 -- what some tokens say as a whole, of which the bracket comes behind the last
 abbrev pub read_all : {S A : Type 0} → Step S A → S → List Lexeme → Result A Expected

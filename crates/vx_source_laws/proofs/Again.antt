@@ -2,7 +2,7 @@
 use Rattle.std.proofs.Common.{◌≡◌, ℕ, zero, suc, ◌≤◌, Bool, true, false, List, [], ◌++◌, length, refl, ap, ◌∙◌, subst, append-nil, arith}
 use Rattle.std.specs.Prelude.{◌==◌, ◌&&◌, if◌then◌else◌}
 use Rattle.std.proofs.lemmas.Bool.{and_parts, eqb-true}
-use Rattle.vx_fn.specs.Functions.{Function, case_when, get_item, literal, pack, select, fill_null, zip, binary, logical_not, between, like, is_null, is_not_null, mask, cast, starts_with, byte_length, arity_of}
+use Rattle.vx_fn.specs.Functions.{Function, case_when, get_item, literal, pack, select, fill_null, zip, binary, logical_not, between, like, is_null, is_not_null, mask, cast, starts_with, byte_length, list_contains, arity_of}
 use Rattle.vx_tree.specs.Nodes.{count_of}
 use Rattle.vx_tree.specs.Trees.{Tree, root, call, Trees, no_tree, tree}
 use Rattle.vx_source_types.specs.declared.token.Sign.TheVariants.{Dollar}
@@ -14,7 +14,7 @@ use Rattle.vx_source_grammar.specs.Nodes.{heights_of}
 use Rattle.vx_source_grammar.specs.States.{expression_start, tight}
 use Rattle.vx_source_laws.specs.Nesting.{shown_nesting, call_nesting, nesting, nestings}
 use Rattle.vx_source_laws.specs.SpelledTrees.{IsSpelledFunction, IsSpelledTree, AreSpelledTrees}
-use Rattle.vx_source_laws.proofs.Calls.{fill_null_again, logical_not_again, is_null_again, is_not_null_again, mask_again, starts_with_again, byte_length_again, zip_again}
+use Rattle.vx_source_laws.proofs.Calls.{fill_null_again, logical_not_again, is_null_again, is_not_null_again, mask_again, starts_with_again, byte_length_again, list_contains_again, zip_again}
 use Rattle.vx_source_laws.proofs.Cases.{case_again}
 use Rattle.vx_source_laws.proofs.Casts.{cast_again}
 use Rattle.vx_source_laws.proofs.Fulls.{full_again}
@@ -83,6 +83,7 @@ own_again is_not_null es w u s n = is_not_null_again es u n
 own_again mask es w u s n = mask_again es u n
 own_again starts_with es w u s n = starts_with_again es u n
 own_again byte_length es w u s n = byte_length_again es u n
+own_again list_contains es w u s n = list_contains_again es u n
 own_again (cast t) es w u s n = of_one (cast t) es n u (λ e k. cast_again t e w k)
 
 -- ---- nodes

@@ -4,7 +4,7 @@ use Rattle.std.specs.Prelude.{codes, ◌==◌}
 use Rattle.std.proofs.lemmas.Bool.{eq-eqb}
 use Rattle.vx_dtype.specs.Texts.{with_commas}
 use Rattle.vx_value.specs.Types.{Name}
-use Rattle.vx_fn.specs.Functions.{Function, fill_null, zip, logical_not, is_null, is_not_null, mask, starts_with, byte_length, arity_of}
+use Rattle.vx_fn.specs.Functions.{Function, fill_null, zip, logical_not, is_null, is_not_null, mask, starts_with, byte_length, list_contains, arity_of}
 use Rattle.vx_tree.specs.Nodes.{count_of}
 use Rattle.vx_tree.specs.Trees.{call, Trees, no_tree, tree}
 use Rattle.vx_dtype.proofs.Choice.{yes}
@@ -83,6 +83,9 @@ starts_with_again es k n fs r rest h m = plain_again starts_with (codes "starts_
 
 pub byte_length_again : (es : Trees) → AreAgain es → arity_of byte_length ≡ count_of es → IsOwnAgain byte_length es
 byte_length_again es k n fs r rest h m = plain_again byte_length (codes "byte_length") es fs r rest refl refl k n (omega arith)
+
+pub list_contains_again : (es : Trees) → AreAgain es → arity_of list_contains ≡ count_of es → IsOwnAgain list_contains es
+list_contains_again es k n fs r rest h m = plain_again list_contains (codes "list_contains") es fs r rest refl refl k n (omega arith)
 
 -- `zip` has a name of its own
 pub zip_again : (es : Trees) → AreAgain es → arity_of zip ≡ count_of es → IsOwnAgain zip es

@@ -3,7 +3,7 @@ use Rattle.std.proofs.Common.{◌≡◌, ℕ, zero, suc, ◌≤◌, true, List, 
 use Rattle.std.specs.Prelude.{codes}
 use Rattle.vx_dtype.specs.Texts.{with_commas}
 use Rattle.vx_value.specs.Types.{Name}
-use Rattle.vx_fn.specs.Functions.{Function, case_when, get_item, literal, pack, select, fill_null, zip, binary, logical_not, between, like, is_null, is_not_null, mask, cast, starts_with, byte_length, id_of}
+use Rattle.vx_fn.specs.Functions.{Function, case_when, get_item, literal, pack, select, fill_null, zip, binary, logical_not, between, like, is_null, is_not_null, mask, cast, starts_with, byte_length, list_contains, id_of}
 use Rattle.vx_tree.specs.Trees.{call, Trees}
 use Rattle.vx_source_types.proofs.FirstSigns.{first_open_paren, first_open_bracket, first_close_bracket}
 use Rattle.vx_source_types.proofs.FirstTokens.{first_word}
@@ -45,6 +45,7 @@ name_of mask = codes "mask"
 name_of (cast t) = codes "cast"
 name_of starts_with = codes "starts_with"
 name_of byte_length = codes "byte_length"
+name_of list_contains = codes "list_contains"
 
 -- it is a word, behind `vortex.` in the function's name
 named_so : (f : Function) → (id_of f ≡ codes "vortex." ++ name_of f) × (is_plain (name_of f) ≡ true)
@@ -65,6 +66,7 @@ named_so mask = (refl, refl)
 named_so (cast t) = (refl, refl)
 named_so starts_with = (refl, refl)
 named_so byte_length = (refl, refl)
+named_so list_contains = (refl, refl)
 
 -- ---- options
 
@@ -85,6 +87,7 @@ options_again is_not_null room rest u h = record { tokens = []; collected = no_t
 options_again mask room rest u h = record { tokens = []; collected = no_token; read = refl }
 options_again starts_with room rest u h = record { tokens = []; collected = no_token; read = refl }
 options_again byte_length room rest u h = record { tokens = []; collected = no_token; read = refl }
+options_again list_contains room rest u h = record { tokens = []; collected = no_token; read = refl }
 options_again (cast t) room rest u h = cast_options t room rest u (omega arith)
 
 -- ---- the node

@@ -1,7 +1,7 @@
 -- A tree's text needs as much nesting as the tree is high, and little more.
 use Rattle.std.proofs.Common.{ℕ, ◌+◌, ◌≤◌, max, Bool, true, false, arith}
 use Rattle.std.specs.Prelude.{◌==◌, ◌&&◌, if◌then◌else◌}
-use Rattle.vx_fn.specs.Functions.{Function, case_when, get_item, literal, pack, select, fill_null, zip, binary, logical_not, between, like, is_null, is_not_null, mask, cast, starts_with, byte_length, arity_of}
+use Rattle.vx_fn.specs.Functions.{Function, case_when, get_item, literal, pack, select, fill_null, zip, binary, logical_not, between, like, is_null, is_not_null, mask, cast, starts_with, byte_length, list_contains, arity_of}
 use Rattle.vx_tree.specs.Nodes.{count_of}
 use Rattle.vx_tree.specs.Trees.{Tree, root, call, Trees, no_tree, tree}
 use Rattle.vx_source_writer.specs.SourceTexts.{is_shown}
@@ -25,6 +25,7 @@ shown_below is_not_null h n l = omega arith
 shown_below mask h n l = omega arith
 shown_below starts_with h n l = omega arith
 shown_below byte_length h n l = omega arith
+shown_below list_contains h n l = omega arith
 shown_below (cast t) h n l = omega arith
 
 node_below : (b : Bool) (f : Function) (h n : ℕ) → h ≤ n → h + 1 ≤ (if b then shown_nesting f h n else call_nesting f n)
@@ -57,6 +58,7 @@ shown_above is_not_null h n b l = omega arith
 shown_above mask h n b l = omega arith
 shown_above starts_with h n b l = omega arith
 shown_above byte_length h n b l = omega arith
+shown_above list_contains h n b l = omega arith
 shown_above (cast t) h n b l = omega arith
 
 node_above : (c : Bool) (f : Function) (h n b : ℕ) → n ≤ h + b + 1 → (if c then shown_nesting f h n else call_nesting f n) ≤ h + max (options_nesting f) b + 2

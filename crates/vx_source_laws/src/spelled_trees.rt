@@ -58,7 +58,8 @@ pub fn function_is_spelled(scalar_fn: &ScalarFnRef)
         | ScalarFnRef::IsNotNull(_)
         | ScalarFnRef::Mask(_)
         | ScalarFnRef::StartsWith(_)
-        | ScalarFnRef::ByteLength(_) => {}
+        | ScalarFnRef::ByteLength(_)
+        | ScalarFnRef::ListContains(_) => {}
     }
 }
 

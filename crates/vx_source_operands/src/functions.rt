@@ -28,6 +28,8 @@ pub fn plain_function(name: &FieldName) -> Option<ScalarFnRef>
         Some(ScalarFnRef::StartsWith(EmptyOptions))
     } else if is_word(name, "byte_length") {
         Some(ScalarFnRef::ByteLength(EmptyOptions))
+    } else if is_word(name, "list_contains") {
+        Some(ScalarFnRef::ListContains(EmptyOptions))
     } else {
         None
     }

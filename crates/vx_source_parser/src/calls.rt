@@ -99,6 +99,8 @@ fn callee(name: &FieldName) -> Option<Callee>
         Some(Callee::Own(ScalarFnRef::StartsWith(EmptyOptions)))
     } else if is_word(name, "byte_length") {
         Some(Callee::Own(ScalarFnRef::ByteLength(EmptyOptions)))
+    } else if is_word(name, "list_contains") {
+        Some(Callee::Own(ScalarFnRef::ListContains(EmptyOptions)))
     } else if is_word(name, "if") {
         Some(Callee::If)
     } else {

@@ -134,7 +134,7 @@ pub enum Expected {
     #[error("expected at most 4294967295 pairs of a CASE")]
     FewerPairs,
     /// No function has that name.
-    #[error("expected a function: byte_length, cast, coalesce, fill_null, if, is_not_null, is_null, mask, pack, starts_with, zip, or vortex. and a function's name")]
+    #[error("expected a function: byte_length, cast, coalesce, fill_null, if, is_not_null, is_null, list_contains, mask, pack, starts_with, zip, or vortex. and a function's name")]
     Function,
     /// A function has another number of children.
     #[error("expected another number of children")]

@@ -8,7 +8,7 @@ use Rattle.vx_value.specs.Types.{Name, truth, number, text, octets, LogicalType,
 use Rattle.vx_value.specs.ValueTexts.{value_text}
 use Rattle.vx_fn.specs.declared.options.FieldSelection.{FieldSelection}
 use Rattle.vx_fn.specs.declared.options.FieldSelection.TheVariants.{Include, Exclude}
-use Rattle.vx_fn.specs.Functions.{Function, case_when, get_item, literal, pack, select, fill_null, zip, binary, logical_not, between, like, is_null, is_not_null, mask, cast, starts_with, byte_length, arity_of, selection_names}
+use Rattle.vx_fn.specs.Functions.{Function, case_when, get_item, literal, pack, select, fill_null, zip, binary, logical_not, between, like, is_null, is_not_null, mask, cast, starts_with, byte_length, list_contains, arity_of, selection_names}
 use Rattle.vx_fn.specs.Texts.{pack_sql, select_sql, own_sql, call_sql, node_sql}
 use Rattle.vx_tree.specs.Nodes.{count_of}
 use Rattle.vx_tree.specs.Texts.{sql, sqls}
@@ -92,6 +92,7 @@ own-plain is_not_null cs p = refl
 own-plain mask cs p = refl
 own-plain starts_with cs p = refl
 own-plain byte_length cs p = refl
+own-plain list_contains cs p = refl
 
 node-plain : (f : Function) (cs : List (List ℕ)) → is_shown f ≡ true → length cs ≡ arity_of f → IsPlainFunction f → node_source f cs ≡ node_sql f cs
 node-plain f cs s h p =

@@ -30,7 +30,8 @@ pub(crate) fn write_options<W: Write>(scalar_fn: &ScalarFnRef, f: &mut Formatter
         | ScalarFnRef::IsNotNull(options)
         | ScalarFnRef::Mask(options)
         | ScalarFnRef::StartsWith(options)
-        | ScalarFnRef::ByteLength(options) => options.fmt(f),
+        | ScalarFnRef::ByteLength(options)
+        | ScalarFnRef::ListContains(options) => options.fmt(f),
     }
 }
 
