@@ -13,7 +13,7 @@ use Rattle.vx_source_types.specs.Untyped.{has_texts, point_read, typed_value}
 use Rattle.vx_source_types.specs.ValueReading.{Drafted, drafted, pointed}
 use Rattle.vx_source_types.specs.declared.expectation.Expected.{Expected}
 use Rattle.vx_source_over.specs.Peers.{is_peer, has_type_of_peers, open_scalar, child_at, is_open, are_open}
-use Rattle.vx_source_over.specs.Settling.{Refusal, when_settled, read_as, fitted, as_alone, literal_as, unless, first_or, first_type, node_of, settled, owned, rest, wished, read_over, written, written_as}
+use Rattle.vx_source_over.specs.Settling.{Refusal, when_settled, read_as, fitted, as_alone, literal_as, unless, first_or, first_wish, node_of, settled, owned, rest, wished, read_over, written, written_as}
 use Rattle.vx_source_over.specs.Laws.{IsValueAs, value_before, IsRetyped, same_root, other_type, same_node, AreRetyped, no_more, one_more, TypesAloneChange, OtherValuesStay}
 use Rattle.vx_source_over.proofs.Steps.{settled_parts}
 
@@ -183,9 +183,9 @@ mutual
   settled_retyped s root d t o h = subst (IsRetyped root d) (the_tree root t h) same_root
   settled_retyped s (call f es) d t o h =
       let own = settled_parts _ (owned s f 0 es d) t h in
-      let below = settled_parts _ (rest s (first_type s own.0) f 0 es d own.0) t own.2 in
+      let below = settled_parts _ (rest s (first_wish s f own.0) f 0 es d own.0) t own.2 in
       subst (IsRetyped (call f es) d) (the_tree (call f below.0) t below.2)
-      (same_node (no_literal (open_scalar f d) (has_type_of_peers f && are_open f 0 es d) o) (rest_retyped s (first_type s own.0) f 0 es d own.0 below.0 (owned_retyped s f 0 es d own.0 own.1) below.1))
+      (same_node (no_literal (open_scalar f d) (has_type_of_peers f && are_open f 0 es d) o) (rest_retyped s (first_wish s f own.0) f 0 es d own.0 below.0 (owned_retyped s f 0 es d own.0 own.1) below.1))
 
   owned_retyped : (s : LogicalType) (f : Function) (i : ℕ) (es : Trees) (d : Option Tree) (own : List (Option Tree)) → owned s f i es d ≡ Ok own → AreOwn i es d own
   owned_retyped s f i no_tree d own h = tt

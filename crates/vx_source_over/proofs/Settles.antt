@@ -24,7 +24,7 @@ use Rattle.vx_source_over.specs.declared.error.OverError.{OverError}
 use Rattle.vx_source_over.specs.declared.nodes.Settled.{Settled}
 use Rattle.vx_source_over.specs.Peers.{is_peer, has_type_of_peers, open_scalar, child_at, is_open, are_open}
 use Rattle.vx_source_over.specs.Reading.{Refuses, Settles}
-use Rattle.vx_source_over.specs.Settling.{Refusal, when_settled, unless, first_or, first_type, literal_as, node_of, settled, owned, rest, wished}
+use Rattle.vx_source_over.specs.Settling.{Refusal, when_settled, unless, first_or, first_wish, literal_as, node_of, settled, owned, rest, wished}
 use Rattle.vx_source_over.specs.Views.{settled_tree, settled_trees, own_trees, none_of, first_own, said_of, wish_of, IsTyped, AreTyped, EachTyped}
 use Rattle.vx_source_over.proofs.Steps.{refuses_all, settled_parts, own_after, own_after-push, own_after-end, own_refused, rest_after, rest_after-push, rest_after-end, rest_refused}
 
@@ -255,7 +255,7 @@ module _ (s : LogicalType) (f : Function) (es : Trees) (d : Option Tree) (e : Tr
       refuses_all error (owned s f 0 es d) own_of
       (λ r k.
       let b : (has_type_of_peers f && are_open f 0 es d) ≡ false = not_both (has_type_of_peers f) _ (refused_open s f 0 es d r k) in
-      own_is (closed_node f es d bare b) ∙ ap (λ x. unless false (when_settled (λ own. when_settled (λ ts. Ok (call f ts)) (rest s (first_type s own) f 0 es d own)) x)) k) h
+      own_is (closed_node f es d bare b) ∙ ap (λ x. unless false (when_settled (λ own. when_settled (λ ts. Ok (call f ts)) (rest s (first_wish s f own) f 0 es d own)) x)) k) h
     where
       not_both : (a b : Bool) → b ≡ false → (a && b) ≡ false
       not_both true b h = h
@@ -263,18 +263,18 @@ module _ (s : LogicalType) (f : Function) (es : Trees) (d : Option Tree) (e : Tr
 
   -- the others are settled over its peers
   over_peers : (own : List (Option Tree)) → open_scalar f d ≡ None → owned s f 0 es d ≡ Ok own → (has_type_of_peers f && none_of own) ≡ false
-      → own_of ≡ unless false (when_settled (λ ts. Ok (call f ts)) (rest s (first_type s own) f 0 es d own))
+      → own_of ≡ unless false (when_settled (λ ts. Ok (call f ts)) (rest s (first_wish s f own) f 0 es d own))
   over_peers own bare said h =
       let b : (has_type_of_peers f && are_open f 0 es d) ≡ false = rw (← open_none s f 0 es d own said) h in
-      own_is (closed_node f es d bare b) ∙ ap (λ x. unless false (when_settled (λ own. when_settled (λ ts. Ok (call f ts)) (rest s (first_type s own) f 0 es d own)) x)) said
+      own_is (closed_node f es d bare b) ∙ ap (λ x. unless false (when_settled (λ own. when_settled (λ ts. Ok (call f ts)) (rest s (first_wish s f own) f 0 es d own)) x)) said
 
-  pub rest_is_refused : (own : List (Option Tree)) (w : Option LogicalType) (error : OverError) → open_scalar f d ≡ None → owned s f 0 es d ≡ Ok own → (has_type_of_peers f && none_of own) ≡ false → w ≡ first_type s own
+  pub rest_is_refused : (own : List (Option Tree)) (w : Option LogicalType) (error : OverError) → open_scalar f d ≡ None → owned s f 0 es d ≡ Ok own → (has_type_of_peers f && none_of own) ≡ false → w ≡ first_wish s f own
       → Refuses error (rest s w f 0 es d own) → Refuses error own_of
   rest_is_refused own w error bare said h wish k =
       refuses_all error (rest s w f 0 es d own) own_of
       (λ r q. over_peers own bare said h ∙ ap (λ x. unless false (when_settled (λ ts. Ok (call f ts)) (rest s x f 0 es d own))) (sym wish) ∙ ap (λ x. unless false (when_settled (λ ts. Ok (call f ts)) x)) q) k
 
-  pub node_settled : (own : List (Option Tree)) (w : Option LogicalType) (ts : Trees) (t : Tree) → open_scalar f d ≡ None → owned s f 0 es d ≡ Ok own → (has_type_of_peers f && none_of own) ≡ false → w ≡ first_type s own
+  pub node_settled : (own : List (Option Tree)) (w : Option LogicalType) (ts : Trees) (t : Tree) → open_scalar f d ≡ None → owned s f 0 es d ≡ Ok own → (has_type_of_peers f && none_of own) ≡ false → w ≡ first_wish s f own
       → rest s w f 0 es d own ≡ Ok ts → t ≡ call f ts → own_of ≡ Ok (Some t)
   node_settled own w ts t bare said h wish k is =
       over_peers own bare said h ∙ ap (λ x. unless false (when_settled (λ ts. Ok (call f ts)) (rest s x f 0 es d own))) (sym wish) ∙ ap (λ x. unless false (when_settled (λ ts. Ok (call f ts)) x)) k ∙ ap (λ x. Ok (Some x)) (sym is)

@@ -3,7 +3,7 @@ use Rattle.std.specs.Prelude.{ℕ, suc, ◌*◌, ◌%◌, ◌==◌, Bool, true, 
 use Rattle.std.specs.Option.{is_some}
 use Rattle.vx_value.specs.Columns.{Constant, constant}
 use Rattle.vx_value.specs.Equality.{equal_type}
-use Rattle.vx_fn.specs.Functions.{Function, case_when, get_item, literal, pack, select, fill_null, zip, Operation, compares, and_also, or_else, computes, binary, logical_not, between, like, is_null, is_not_null, mask, cast, starts_with, byte_length}
+use Rattle.vx_fn.specs.Functions.{Function, case_when, get_item, literal, pack, select, fill_null, zip, Operation, compares, and_also, or_else, computes, binary, logical_not, between, like, is_null, is_not_null, mask, cast, starts_with, byte_length, list_contains}
 use Rattle.vx_tree.specs.Nodes.{children_of, function_at, tree_at}
 use Rattle.vx_tree.specs.Trees.{Tree, root, call, Trees, no_tree, tree}
 
@@ -13,7 +13,8 @@ use Rattle.vx_tree.specs.Trees.{Tree, root, call, Trees, no_tree, tree}
 abbrev pub is_branch : ℕ → ℕ → Bool
 is_branch pairs i = (i % 2 == 1) || (i == 2 * pairs)
 
--- whether the child of that index is a peer: it has to agree in type with the other peers
+-- whether the child of that index is a peer: it has to agree in type with the other peers, or, looked for in a list, with its
+-- elements
 abbrev pub is_peer : Function → ℕ → Bool
 is_peer (case_when pairs has_else) i = is_branch pairs i
 is_peer (get_item a) i = false
@@ -32,6 +33,7 @@ is_peer mask i = false
 is_peer (cast t) i = false
 is_peer starts_with i = false
 is_peer byte_length i = false
+is_peer list_contains i = true
 
 -- whether the operation's value has the type of its operands
 abbrev pub is_arithmetic : Operation → Bool
@@ -59,6 +61,7 @@ has_type_of_peers mask = false
 has_type_of_peers (cast t) = false
 has_type_of_peers starts_with = false
 has_type_of_peers byte_length = false
+has_type_of_peers list_contains = false
 
 -- ---- what was written without a type
 

@@ -1,11 +1,11 @@
 -- Literals that take their type from what they stand beside. Of two readings of a text the first is e; d is the other
 -- one, which tells the literals that were written without a type.
-use Rattle.std.specs.Prelude.{ℕ, suc, drop, Bool, true, false, List, [], ◌∷◌, Option, Some, None, Result, Ok, Err, if◌then◌else◌}
+use Rattle.std.specs.Prelude.{ℕ, suc, drop, Bool, true, false, List, [], ◌∷◌, Option, Some, None, Result, Ok, Err, option_and_then, if◌then◌else◌}
 use Rattle.std.specs.Option.{option_or}
 use Rattle.std.specs.Result.{result_ok}
 use Rattle.vx_value.specs.Columns.{Constant}
-use Rattle.vx_value.specs.Types.{text, LogicalType, ty, atomic, Datum, utf8, is_null_datum, with_nullability}
-use Rattle.vx_fn.specs.Functions.{Function, literal}
+use Rattle.vx_value.specs.Types.{text, LogicalType, ty, atomic, list, Datum, utf8, is_null_datum, with_nullability}
+use Rattle.vx_fn.specs.Functions.{Function, literal, list_contains}
 use Rattle.vx_tree.specs.Trees.{Tree, root, call, Trees, no_tree, tree, typed}
 use Rattle.vx_source_types.specs.Literals.{plain_literal, typed_literal}
 use Rattle.vx_source_types.specs.ValueReading.{Drafted, drafted, pointed}
@@ -69,6 +69,16 @@ first_type s [] = None
 first_type s (None ∷ own) = first_type s own
 first_type s (Some t ∷ own) = option_or (type_over s t) (first_type s own)
 
+-- the type that a peer of that type wishes of the others: its own; a list in which something is looked for that of its elements
+abbrev pub wish_for : Function → LogicalType → Option LogicalType
+wish_for list_contains (ty (list e) n) = Some e
+wish_for list_contains t = None
+wish_for f t = Some t
+
+-- what the first peer with a type wishes
+abbrev pub first_wish : LogicalType → Function → List (Option Tree) → Option LogicalType
+first_wish s f own = option_and_then (wish_for f) (first_type s own)
+
 -- ---- a tree
 
 -- nothing where it waits, and else what was settled
@@ -88,11 +98,11 @@ node_of f es w (Some c) below = when_settled (λ g. Ok (call g es)) (literal_as 
 node_of f es w None below = when_settled (λ ts. Ok (call f ts)) below
 
 abbrev mutual
-  -- a tree that has a type of its own. First its peers with a type of their own are settled; the first type that one of them
-  -- has is wished of the other peers
+  -- a tree that has a type of its own. First its peers with a type of their own are settled; what the first of them with a
+  -- type wishes is wished of the other peers
   pub settled : LogicalType → Tree → Option Tree → Result Tree Refusal
   settled s root d = Ok root
-  settled s (call f es) d = when_settled (λ own. when_settled (λ ts. Ok (call f ts)) (rest s (first_type s own) f 0 es d own)) (owned s f 0 es d)
+  settled s (call f es) d = when_settled (λ own. when_settled (λ ts. Ok (call f ts)) (rest s (first_wish s f own) f 0 es d own)) (owned s f 0 es d)
 
   -- of the children from that index on the peers with a type of their own, from left to right, and nothing of the others
   pub owned : LogicalType → Function → ℕ → Trees → Option Tree → Result (List (Option Tree)) Refusal

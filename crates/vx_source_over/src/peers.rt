@@ -54,7 +54,10 @@ pub(crate) fn is_peer(scalar_fn: &ScalarFnRef, i: usize) -> bool
 {
     match scalar_fn {
         ScalarFnRef::CaseWhen(options) => is_branch(options.num_when_then_pairs, i),
-        ScalarFnRef::FillNull(_) | ScalarFnRef::Binary(_) | ScalarFnRef::Between(_) => true,
+        ScalarFnRef::FillNull(_)
+        | ScalarFnRef::Binary(_)
+        | ScalarFnRef::Between(_)
+        | ScalarFnRef::ListContains(_) => true,
         ScalarFnRef::Zip(_) => i < 2,
         ScalarFnRef::GetItem(_)
         | ScalarFnRef::Literal(_)
@@ -97,7 +100,8 @@ pub(crate) fn has_type_of_peers(scalar_fn: &ScalarFnRef) -> bool
         | ScalarFnRef::Mask(_)
         | ScalarFnRef::Cast(_)
         | ScalarFnRef::StartsWith(_)
-        | ScalarFnRef::ByteLength(_) => false,
+        | ScalarFnRef::ByteLength(_)
+        | ScalarFnRef::ListContains(_) => false,
     }
 }
 

@@ -6,7 +6,7 @@ ghost use Rattle.vx_value.specs.Types.{LogicalType};
 ghost use Rattle.vx_value.specs.Views.{type_of};
 ghost use Rattle.vx_source_over.specs.Peers.{has_type_of_peers, is_open};
 ghost use Rattle.vx_source_over.specs.Reading.{Settles};
-ghost use Rattle.vx_source_over.specs.Settling.{unless, settled, owned, rest, wished, first_type};
+ghost use Rattle.vx_source_over.specs.Settling.{unless, settled, owned, rest, wished, wish_for, first_wish};
 ghost use Rattle.vx_source_over.specs.Views.{IsTyped, AreTyped, EachTyped, first_own, none_of, own_trees, other_of, said_of, settled_tree, settled_trees, wish_of};
 ghost use Rattle.vx_source_over.specs.declared.error.OverError.TheVariants.{OutOfMemory};
 
@@ -57,8 +57,8 @@ pub(crate) fn settle(
     }
 }
 
-// The tree, if it has a type of its own. First its peers with a type of their own are settled; the first type that one of
-// them has is wished of the others.
+// The tree, if it has a type of its own. First its peers with a type of their own are settled; what the first of them with
+// a type wishes is wished of the others.
 #[cycle(settle)]
 fn own(over: Over, e: &Expression, beside: Beside) -> Result<Option<Settled>, OverError>
     ensures tree { Settles (option_map settled_tree) result (unless (is_open (tree_of e.now) (other_of beside.entry)) (settled (type_of over.entry.scope.now) (tree_of e.now) (other_of beside.entry))) }
@@ -78,7 +78,7 @@ fn own(over: Over, e: &Expression, beside: Beside) -> Result<Option<Settled>, Ov
     if all_wait(scalar_fn, own.as_slice()) {
         return Ok(None);
     }
-    let begun = with_wish(own)?;
+    let begun = with_wish(scalar_fn, own)?;
     let below = rest(over, scalar_fn, children.as_slice(), beside, begun)?;
     Ok(Some(node_over(over.alloc, scalar_fn, below)?))
 }
@@ -115,16 +115,39 @@ fn all_wait(scalar_fn: &ScalarFnRef, own: &[Option<Settled>]) -> bool
 
 // What is wished of the other peers.
 #[inline(never)]
-fn with_wish(own: Vec<Option<Settled>>) -> Result<Begun, OverError>
+fn with_wish(scalar_fn: &ScalarFnRef, own: Vec<Option<Settled>>) -> Result<Begun, OverError>
     ensures own { IfOk result (λ b. b.own ≡ own) }
-    ensures wish { IfOk result (λ b. (s : LogicalType) → AreTyped s own.items → option_map type_of b.wish ≡ first_type s (own_trees own.items)) }
+    ensures wish { IfOk result (λ b. (s : LogicalType) → AreTyped s own.items → option_map type_of b.wish ≡ first_wish s (function_of scalar_fn.now) (own_trees own.items)) }
     ensures memory { IfErr result (λ e. e ≡ OutOfMemory) }
 {
-    let wish = match first_type(own.as_slice()) {
+    let wish = match first_wish(scalar_fn, own.as_slice()) {
         Some(dtype) => Some(dtype.clone()?),
         None => None,
     };
     Ok(Begun { own, wish })
+}
+
+// What the first of the peers with a type wishes.
+fn first_wish<'a>(scalar_fn: &ScalarFnRef, own: &'a [Option<Settled>]) -> Option<&'a DType>
+    ensures { (s : LogicalType) → AreTyped s own.now → option_map (λ t. type_of t.now) result ≡ first_wish s (function_of scalar_fn.now) (own_trees own.now) }
+{
+    match first_type(own) {
+        Some(dtype) => wish_for(scalar_fn, dtype),
+        None => None,
+    }
+}
+
+// The type that a peer of that type wishes of the others.
+fn wish_for<'a>(scalar_fn: &ScalarFnRef, dtype: &'a DType) -> Option<&'a DType>
+    ensures { option_map (λ t. type_of t.now) result ≡ wish_for (function_of scalar_fn.now) (type_of dtype.now) }
+{
+    match scalar_fn {
+        ScalarFnRef::ListContains(_) => match dtype {
+            DType::List(element, _) => Some(element.as_ref()),
+            _ => None,
+        },
+        _ => Some(dtype),
+    }
 }
 
 // The children: those that are settled already, and the others, peers with the wish.
