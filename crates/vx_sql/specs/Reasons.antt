@@ -10,7 +10,7 @@ use Rattle.vx_literals.specs.Instants.{units_a_day}
 use Rattle.vx_source_types.specs.Names.{same_word}
 use Rattle.vx_value.specs.Types.{Name, number, floating, date, timestamp, LogicalType, ty, atomic, Datum, null, bool, int, float, utf8, bytes, list_of, struct_of}
 use Rattle.vx_floats.specs.declared.arithmetic.Arithmetic.{Arithmetic}
-use Rattle.vx_fn.specs.Functions.{Function, case_when, get_item, literal, pack, select, fill_null, zip, Operation, compares, and_also, or_else, computes, binary, logical_not, between, like, is_null, is_not_null, mask, cast, starts_with, byte_length, arity_of, is_atomic}
+use Rattle.vx_fn.specs.Functions.{Function, case_when, get_item, literal, pack, select, fill_null, zip, Operation, compares, and_also, or_else, computes, binary, logical_not, between, like, is_null, is_not_null, mask, cast, starts_with, byte_length, list_contains, arity_of, is_atomic}
 use Rattle.vx_tree.specs.Nodes.{bound_at, bound_count_of}
 use Rattle.vx_tree.specs.Trees.{BoundTrees}
 use Rattle.vx_sql.specs.declared.dialect.Dialect.{Dialect}
@@ -131,6 +131,7 @@ function_reason d t mask bs = None
 function_reason d t (cast u) bs = None
 function_reason d t starts_with bs = pattern_reason bs
 function_reason d t byte_length bs = None
+function_reason d t list_contains bs = Some UnknownFunction
 
 -- why values of the type have no text: the engine orders floating-point numbers otherwise, or has no such values
 abbrev pub type_reason : Dialect → LogicalType → Option Reason

@@ -3,7 +3,7 @@ use Rattle.std.specs.Prelude.{ℕ, Bool, true, false, ◌&&◌, ◌||◌, ◌==�
 use Rattle.vx_value.specs.Columns.{Constant}
 use Rattle.vx_value.specs.Types.{Name, number, LogicalType, ty, atomic, Datum, utf8}
 use Rattle.vx_floats.specs.declared.arithmetic.Arithmetic.{Arithmetic}
-use Rattle.vx_fn.specs.Functions.{equal, not_equal, greater, greater_or_equal, less, less_or_equal, Comparison, Operation, compares, and_also, or_else, computes, Function, case_when, get_item, literal, pack, select, fill_null, zip, binary, logical_not, between, like, is_null, is_not_null, mask, cast, starts_with, byte_length, arity_of}
+use Rattle.vx_fn.specs.Functions.{equal, not_equal, greater, greater_or_equal, less, less_or_equal, Comparison, Operation, compares, and_also, or_else, computes, Function, case_when, get_item, literal, pack, select, fill_null, zip, binary, logical_not, between, like, is_null, is_not_null, mask, cast, starts_with, byte_length, list_contains, arity_of}
 use Rattle.vx_fn.specs.Texts.{with_commas, pairs_sql, operator_sql, bound_text}
 use Rattle.vx_tree.specs.Nodes.{bound_at, bound_count_of}
 use Rattle.vx_tree.specs.Trees.{BoundTree, scope, node, BoundTrees, no_bound, bound}
@@ -282,6 +282,7 @@ own_sql d t mask bs cs = choice_sql (get_or cs 1 []) (get_or cs 0 []) (codes " E
 own_sql d t (cast u) bs cs = get_or cs 0 []
 own_sql d t starts_with bs cs = match_sql d false false (get_or cs 0 []) (second_beginning d bs)
 own_sql d t byte_length bs cs = length_sql d (get_or cs 0 [])
+own_sql d t list_contains bs cs = []
 
 -- the text of a node; over another number of children it has none
 abbrev pub node_sql : Dialect → LogicalType → Function → BoundTrees → List (List ℕ) → List ℕ

@@ -65,7 +65,7 @@ fn function_reason(
         ScalarFnRef::GetItem(name) => name_reason(dialect, names_first(children), name),
         ScalarFnRef::Literal(scalar) => literal_reason(scalar),
         ScalarFnRef::Pack(options) => pack_reason(dialect, options.names.as_slice()),
-        ScalarFnRef::Select(_) => Some(Reason::UnknownFunction),
+        ScalarFnRef::Select(_) | ScalarFnRef::ListContains(_) => Some(Reason::UnknownFunction),
         ScalarFnRef::FillNull(_) => fill_reason(children),
         ScalarFnRef::Like(_) | ScalarFnRef::StartsWith(_) => pattern_reason(children),
         ScalarFnRef::Binary(operator) => operation_reason(dialect, dtype, *operator, children),

@@ -97,6 +97,7 @@ fn write_own<W: Write>(
         ScalarFnRef::Cast(_) => write_child(children, 0, f),
         ScalarFnRef::StartsWith(_) => write_beginning(children, f),
         ScalarFnRef::ByteLength(_) => write_length(children, f),
+        ScalarFnRef::ListContains(_) => Ok(()),
     }
 }
 
