@@ -17,6 +17,7 @@ mod fields;
 mod filling;
 mod logic;
 mod matching;
+mod membership;
 mod merges;
 mod merging;
 mod nodes;

@@ -12,7 +12,8 @@ ghost use Rattle.vx_eval.specs.Items.{is_arithmetic};
 
 use crate::rows::Rows;
 use crate::{
-    arithmetic, beginnings, byte_lengths, casting, choice, comparison, fields, logic, nulls, text,
+    arithmetic, beginnings, byte_lengths, casting, choice, comparison, fields, logic, membership,
+    nulls, text,
 };
 use std::alloc::Global;
 use vx_fn::{Operator, ScalarFnRef};
@@ -79,6 +80,10 @@ pub fn apply<'a>(
         }
         ScalarFnRef::ByteLength(_) => {
             byte_lengths::byte_length(alloc, count, single(columns.as_slice()))
+        }
+        ScalarFnRef::ListContains(_) => {
+            let (list, needle) = pair(columns.as_slice());
+            membership::list_contains(alloc, count, list, needle)
         }
     }
 }

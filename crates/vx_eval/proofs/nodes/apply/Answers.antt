@@ -57,8 +57,11 @@ returns-in-Cast c = at_node _ _ _ _ _ _ _ _ (ap function_of c.in-Cast.is) refl (
 pub returns-in-StartsWith : goal.returns-in-StartsWith
 returns-in-StartsWith c = at_node _ _ _ _ _ _ _ _ (ap function_of c.in-StartsWith.is) refl (ap rows_views (sym c.as_slice-in-StartsWith.ensures.value ∙ c.pair-in-StartsWith.ensures)) (c.starts_with.ensures (node_types (bounds_of c.args.children.now)))
 
+pub returns-in-ByteLength : goal.returns-in-ByteLength
+returns-in-ByteLength c = at_node _ _ _ _ _ _ _ _ (ap function_of c.in-ByteLength.is) refl (ap rows_views (sym c.as_slice-in-ByteLength.ensures.value ∙ c.single-in-ByteLength.ensures)) (c.byte_length.ensures (node_types (bounds_of c.args.children.now)))
+
 pub returns : goal.returns
-returns c = at_node _ _ _ _ _ _ _ _ (ap function_of c.in-ByteLength.is) refl (ap rows_views (sym c.as_slice-in-ByteLength.ensures.value ∙ c.single-in-ByteLength.ensures)) (c.byte_length.ensures (node_types (bounds_of c.args.children.now)))
+returns c = at_node _ _ _ _ _ _ _ _ (ap function_of c.in-ListContains.is) refl (ap rows_views (sym c.as_slice-in-ListContains.ensures.value ∙ c.pair-in-ListContains.ensures)) (c.list_contains.ensures (node_types (bounds_of c.args.children.now)))
 
 pub returns-in-Like : goal.returns-in-Like
 returns-in-Like c = at_node _ _ _ _ _ _ _ _ (ap function_of c.in-Like.is) refl (ap rows_views (sym c.as_slice-in-Like.ensures.value ∙ c.pair.ensures)) (c.like.ensures (node_types (bounds_of c.args.children.now)))

@@ -1,0 +1,57 @@
+// Values among the elements of lists.
+ghost use Rattle.std.specs.Prelude.{◌≡◌, length, List, [], ◌∷◌};
+ghost use Rattle.vx_value.specs.Types.{LogicalType};
+ghost use Rattle.vx_value.specs.Views.{value_of, data_view};
+ghost use Rattle.vx_fn.specs.Functions as functions;
+ghost use Rattle.vx_fn.specs.Values as values;
+ghost use Rattle.vx_eval.specs.Columns.{rows_view, truth_datum, Evaluates};
+
+use crate::rows::Rows;
+use crate::truths::told;
+use std::alloc::Global;
+use vx_types::{Value, VortexResult};
+
+/// Whether each value is among the elements of the list beside it. Refuses with `OutOfMemory` (1)
+/// alone.
+pub fn list_contains<'a>(
+    alloc: Global,
+    count: usize,
+    list: &Rows,
+    needle: &Rows,
+) -> VortexResult<Rows<'a>>
+    requires list { length (rows_view list.now) ≡ count }
+    requires needle { length (rows_view needle.now) ≡ count }
+    ensures { (ts : List LogicalType) → Evaluates functions.list_contains ts count (rows_view list.now ∷ rows_view needle.now ∷ []) result }
+{
+    told(alloc, count, |i| contained(list.row(i), needle.row(i)))
+}
+
+// Whether the value is among the list's elements; null of a null list or a null value.
+fn contained(list: &Value, needle: &Value) -> Option<bool>
+    ensures { truth_datum result ≡ values.contained (value_of list.now) (value_of needle.now) }
+{
+    match list {
+        Value::List(items) => {
+            if needle.is_null() {
+                None
+            } else {
+                among(items.as_slice(), needle)
+            }
+        }
+        _ => None,
+    }
+}
+
+// Whether the value is one of the elements; null where it is none, but one is null.
+fn among(items: &[Value], needle: &Value) -> Option<bool>
+    ensures { truth_datum result ≡ values.among (data_view items.now) (value_of needle.now) }
+{
+    let mut has_null = false;
+    for item in items {
+        if item == needle {
+            return Some(true);
+        }
+        has_null |= item.is_null();
+    }
+    if has_null { None } else { Some(false) }
+}
