@@ -102,6 +102,10 @@ impl<'a> RefusedNode<'a> {
             (ScalarFnRef::Binary(_) | ScalarFnRef::Like(_) | ScalarFnRef::StartsWith(_), _) => {
                 &[Role::Left, Role::Right]
             }
+            (ScalarFnRef::ListContains(_), VortexError::NotComparable) => {
+                return if is_last { Some(Role::Value) } else { None };
+            }
+            (ScalarFnRef::ListContains(_), _) => &[Role::List, Role::Value],
             (ScalarFnRef::Between(_), _) => &[Role::Value, Role::Lower, Role::Upper],
             (ScalarFnRef::FillNull(_), _) => &[Role::Value, Role::Fill],
             (ScalarFnRef::Zip(_), _) => &[Role::Value, Role::Other],

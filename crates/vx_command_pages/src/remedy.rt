@@ -32,8 +32,10 @@ pub enum Role {
     Left,
     /// What stands behind it.
     Right,
-    /// What a function takes first.
+    /// What a function takes first, or what is looked for in a list.
     Value,
+    /// The list in which it is looked for.
+    List,
     /// The least that a value may be.
     Lower,
     /// The greatest that it may be.
@@ -59,6 +61,7 @@ impl Role {
             Role::Left => "the left side",
             Role::Right => "the right side",
             Role::Value => "the value",
+            Role::List => "the list",
             Role::Lower => "the lower bound",
             Role::Upper => "the upper bound",
             Role::Fill => "the fill",
