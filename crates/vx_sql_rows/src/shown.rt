@@ -55,6 +55,7 @@ fn leads_to(node: &BoundExpression, index: usize) -> bool {
         }
         Some(ScalarFnRef::CaseWhen(_) | ScalarFnRef::Zip(_) | ScalarFnRef::Mask(_)) => false,
         Some(ScalarFnRef::GetItem(_) | ScalarFnRef::Pack(_) | ScalarFnRef::Select(_)) => false,
+        Some(ScalarFnRef::ListContains(_)) => index == 1,
         Some(ScalarFnRef::Literal(_)) | None => false,
     }
 }
@@ -74,6 +75,7 @@ fn is_plain(tree: &BoundExpression, levels: usize) -> bool {
         Some(ScalarFnRef::IsNull(_) | ScalarFnRef::IsNotNull(_) | ScalarFnRef::FillNull(_)) => true,
         Some(ScalarFnRef::Cast(_) | ScalarFnRef::Like(_)) => true,
         Some(ScalarFnRef::StartsWith(_) | ScalarFnRef::ByteLength(_)) => true,
+        Some(ScalarFnRef::ListContains(_)) => true,
         Some(ScalarFnRef::GetItem(_) | ScalarFnRef::Pack(_) | ScalarFnRef::Select(_)) | None =>
             true,
     };

@@ -146,6 +146,15 @@ impl Constructors for OfBound<'_> {
         }
     }
 
+    fn list_contains(
+        &self,
+        alloc: Global,
+        list: BoundExpression,
+        value: BoundExpression,
+    ) -> VortexResult<BoundExpression> {
+        build::list_contains(alloc, list, value)
+    }
+
     fn starts_with(
         &self,
         alloc: Global,

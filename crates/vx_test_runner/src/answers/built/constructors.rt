@@ -85,6 +85,13 @@ pub trait Constructors {
         pattern: Self::Tree,
     ) -> VortexResult<Self::Tree>;
 
+    fn list_contains(
+        &self,
+        alloc: Global,
+        list: Self::Tree,
+        value: Self::Tree,
+    ) -> VortexResult<Self::Tree>;
+
     fn starts_with(
         &self,
         alloc: Global,
@@ -166,6 +173,10 @@ pub fn node<C: Constructors>(
         ScalarFnRef::Like(options) => {
             let (child, pattern) = two(children)?;
             by.like(alloc, *options, child, pattern)
+        }
+        ScalarFnRef::ListContains(_) => {
+            let (list, value) = two(children)?;
+            by.list_contains(alloc, list, value)
         }
         ScalarFnRef::StartsWith(_) => {
             let (child, prefix) = two(children)?;

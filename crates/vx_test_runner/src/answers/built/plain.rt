@@ -128,6 +128,15 @@ impl Constructors for OfSources {
         }
     }
 
+    fn list_contains(
+        &self,
+        alloc: Global,
+        list: Expression,
+        value: Expression,
+    ) -> VortexResult<Expression> {
+        vx_build::list_contains(alloc, list, value)
+    }
+
     fn starts_with(
         &self,
         alloc: Global,
