@@ -38,6 +38,12 @@ def is_table(rows: Any) -> bool:
     return pyarrow is not None and isinstance(rows, (pyarrow.Table, pyarrow.RecordBatch))
 
 
+def rows_of(table: Any) -> List[Any]:
+    """The rows of a table of Arrow's."""
+    rows: List[Any] = table.to_pylist()
+    return rows
+
+
 def is_batch(rows: Any) -> bool:
     """Whether these are rows of Arrow's, or an array of them."""
     return is_table(rows) or (pyarrow is not None and isinstance(rows, (pyarrow.Array, pyarrow.ChunkedArray)))
@@ -126,7 +132,7 @@ def _buffers(array: Any, dtype: Type) -> Iterator[Lent]:
     if dtype.kind == "struct":
         names = [array.type.field(index).name for index in range(array.type.num_fields)]
         yield from _fields({name: array.field(index) for index, name in enumerate(names)}, rows, dtype)
-    elif dtype.kind == "list":
+    elif dtype.kind == "list" and dtype.item is not None:
         yield from _items_of_lists(array, dtype.item)
     elif dtype.item is not None:
         yield from _buffers(array.values.slice(start * dtype.length, rows * dtype.length), dtype.item)

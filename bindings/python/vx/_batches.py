@@ -120,7 +120,7 @@ def _filler(dtype: Type) -> Any:
         return None
     if dtype.kind == "struct":
         return {name: _filler(inner) for name, inner in dtype.fields}
-    if dtype.kind == "fixed_size_list":
+    if dtype.kind == "fixed_size_list" and dtype.item is not None:
         return [_filler(dtype.item)] * dtype.length
     return {"bool": False, "utf8": "", "binary": b"", "list": []}.get(dtype.kind, 0)
 
@@ -144,7 +144,7 @@ def _test_of(dtype: Type) -> Callable[[Any], bool]:
         return lambda value: isinstance(value, (list, tuple)) and len(value) == dtype.length
     if kind == "bool":
         return lambda value: isinstance(_numpy.plain(value), bool)
-    classes = {"utf8": str, "binary": (bytes, bytearray, memoryview), "list": (list, tuple)}[kind]
+    classes: Any = {"utf8": str, "binary": (bytes, bytearray, memoryview), "list": (list, tuple)}[kind]
     return lambda value: isinstance(value, classes)
 
 

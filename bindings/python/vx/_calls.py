@@ -126,7 +126,7 @@ def evaluate(expression: str, rows: Rows, schema: Optional[str] = None) -> Any:
         schema = str(_arrow.schema_of(rows))
     if schema is None:
         raise TypeError("the schema is left out, and no table says it")
-    found = rows.to_pylist() if is_table else _rows_of(rows)
+    found = _arrow.rows_of(rows) if is_table else _rows_of(rows)
     lines = [json.dumps(to_json(row), ensure_ascii=False) + "\n" for row in found]
     page = call("vx_eval_json", encoded(expression), encoded(schema), encoded("".join(lines)))
     dtype = type_of(check(expression, schema))
@@ -134,7 +134,7 @@ def evaluate(expression: str, rows: Rows, schema: Optional[str] = None) -> Any:
     return _arrow.array_of(values, dtype) if is_table else values
 
 
-def _rows_of(rows: Rows) -> List[Any]:
+def _rows_of(rows: Any) -> List[Any]:
     """The rows, also those of a dict of columns, and of arrays of numpy's."""
     if _numpy.is_record_array(rows):
         rows = {name: rows[name] for name in rows.dtype.names}

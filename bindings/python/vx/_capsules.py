@@ -23,7 +23,8 @@ class Exported:
     @property
     def rows(self) -> int:
         """How many rows it says it has."""
-        return max(0, ArrowArray.from_address(self.array).length)
+        rows: int = ArrowArray.from_address(self.array).length
+        return max(0, rows)
 
     def __del__(self) -> None:
         # (no exception is under way in here, which would stop a release in Python's code)

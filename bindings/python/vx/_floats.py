@@ -49,7 +49,8 @@ def from_json(value: Union[decimal.Decimal, int, str], kind: str) -> float:
     0.10000000149011612
     """
     if isinstance(value, str) and value.startswith("0x"):
-        return struct.unpack(">" + LETTERS[kind], bytes.fromhex(value[2:]))[0]
+        number: float = struct.unpack(">" + LETTERS[kind], bytes.fromhex(value[2:]))[0]
+        return number
     return float(value) if kind == "f64" else _single(decimal.Decimal(value))
 
 
@@ -64,4 +65,5 @@ def _single(number: decimal.Decimal) -> float:
     # (rounded twice, a number could end on the wrong side of a middle; an odd last bit says that it is on neither)
     if math.isfinite(near) and near != number and struct.pack("<d", near)[0] % 2 == 0:
         near = math.nextafter(near, math.inf if near < number else -math.inf)
-    return struct.unpack("<f", struct.pack("<f", near))[0]
+    single: float = struct.unpack("<f", struct.pack("<f", near))[0]
+    return single

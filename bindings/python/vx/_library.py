@@ -123,7 +123,7 @@ def _answered_bytes(name: str, given: Sequence[Any], room: int) -> bytes:
         room = answer.needed
     if status == _OUT_OF_MEMORY:
         raise MemoryError
-    page = buffer[: answer.needed]
+    page = ctypes.string_at(buffer, answer.needed)
     if status != _ANSWERED:
         place = Place.of(*(getattr(answer.place, field) for field, _ in _Place._fields_))
         raise error_of(status, page.decode("utf-8", "replace"), place)
@@ -182,14 +182,14 @@ def select_plan(handle: Handle, rows: int, buffers: Sequence[Lent]) -> bytes:
 
 def _batch(handle: Handle, rows: int, buffers: Sequence[Lent]) -> List[Any]:
     """What a call on a plan and a batch is given."""
-    lent = (_Buffer * len(buffers))(*((address_of(buffer), len(buffer)) for buffer in buffers))
+    lent = (_Buffer * len(buffers))(*(_Buffer(address_of(buffer), len(buffer)) for buffer in buffers))
     return [ctypes.byref(handle), rows, lent, len(buffers)]
 
 
 def address_of(buffer: Lent) -> Any:
     """Where the bytes lie, for as long as the buffer is there."""
     if isinstance(buffer, bytes):
-        return ctypes.cast(buffer, ctypes.c_void_p)
+        return ctypes.cast(ctypes.c_char_p(buffer), ctypes.c_void_p)
     if isinstance(buffer, ctypes.Array):
         return ctypes.addressof(buffer)
     return buffer.ctypes.data if hasattr(buffer, "ctypes") else buffer.address

@@ -228,7 +228,8 @@ def joined(parts: Sequence[Any]) -> Any:
 
 def _bits(flags: Any) -> bytes:
     """The flags as bits, the least significant of a byte first."""
-    return sys.modules["numpy"].packbits(flags, bitorder="little").tobytes()
+    packed: bytes = sys.modules["numpy"].packbits(flags, bitorder="little").tobytes()
+    return packed
 
 
 def _are_within(numbers: Any, ends: Any) -> bool:
@@ -238,4 +239,4 @@ def _are_within(numbers: Any, ends: Any) -> bool:
     own = sys.modules["numpy"].iinfo(numbers.dtype)
     if own.min >= ends.min and own.max <= ends.max:
         return True
-    return int(numbers.min()) >= ends.min and int(numbers.max()) <= ends.max
+    return bool(int(numbers.min()) >= ends.min and int(numbers.max()) <= ends.max)

@@ -15,7 +15,7 @@ def _lent(address: Any, length: int, owner: Owned) -> Any:
     """So many bytes at the address, for as long as the owner is there."""
     if not address:
         return b""
-    memory = (ctypes.c_char * length).from_address(address)
+    memory: Any = (ctypes.c_char * length).from_address(address)
     memory.owner = owner
     return memory
 
@@ -49,7 +49,7 @@ class ArrowColumn:
 
     def __init__(self, type: str, schema: ArrowSchema, array: ArrowArray) -> None:
         self.type = type
-        self._rows = array.length
+        self._rows: int = array.length
         self._schema, self._array = Owned(schema), Owned(array)
         self._is_handed_out = False
 

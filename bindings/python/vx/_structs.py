@@ -4,7 +4,7 @@ from __future__ import annotations
 
 import ctypes
 import sys
-from typing import Any, List
+from typing import Any, Callable, List
 
 _COUNT, _POINTER = ctypes.c_int64, ctypes.c_void_p
 
@@ -46,7 +46,8 @@ _RELEASE = ctypes.PYFUNCTYPE(None, _POINTER)
 
 def address_in(capsule: Any, kind: Any) -> int:
     """The address of the struct of that kind which the capsule has. Raises ValueError for a capsule of another one."""
-    return _pointer(capsule, _NAMES[kind])
+    address: int = _pointer(capsule, _NAMES[kind])
+    return address
 
 
 class _Struct:
@@ -56,7 +57,7 @@ class _Struct:
         self.struct = struct
         self.capsule = capsule
 
-    def references(self, count: Any = sys.getrefcount) -> int:
+    def references(self, count: Callable[[Any], int] = sys.getrefcount) -> int:
         """How many there are to the capsule."""
         return count(self.capsule)
 

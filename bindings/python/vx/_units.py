@@ -60,7 +60,7 @@ def _shifted(value: Any, scale: int) -> Optional[int]:
     """The number times 10 to the scale, where that is a whole number."""
     whole = _whole(value)
     if whole is not None:
-        return whole * 10**scale
+        return whole * int(10**scale)
     if not isinstance(value, decimal.Decimal) or not value.is_finite():
         return None
     sign, digits, exponent = value.as_tuple()
@@ -68,7 +68,7 @@ def _shifted(value: Any, scale: int) -> Optional[int]:
     places = int(exponent) + scale
     if places >= 0:
         # (no type has so many digits)
-        return number * 10 ** min(places, 40)
+        return number * int(10 ** min(places, 40))
     whole, rest = divmod(number, 10 ** min(-places, len(digits) + 1))
     return None if rest else whole
 
@@ -96,6 +96,6 @@ def _instant(value: Any, dtype: Type) -> Optional[int]:
     epoch = _EPOCH.replace(tzinfo=datetime.timezone.utc) if has_zone else _EPOCH
     number, places = (value - epoch) // _MICROSECOND, _PLACES[dtype.unit] - 6
     if places >= 0:
-        return number * 10**places
+        return number * int(10**places)
     whole, rest = divmod(number, 10**-places)
     return None if rest else whole
