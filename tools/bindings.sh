@@ -1,19 +1,20 @@
 #!/bin/sh
-# Builds the library of include/vx.h, as bindings/out/libvx.a and libvx.so, and runs what tests it: the
-# header against the exports, the tests in C, C++, Python and Rust, texts of ten megabytes through each call,
-# random buffers and columns of Arrow's through each under sanitizers, what docs/embed/FFI.md shows, the
-# programs of examples, and the 213 expressions of bindings/tests, which the program and the three languages
-# have to answer alike. Ends with a line `bindings: N passed, M failed`, and with status 1 where something
-# failed.
+# Builds the library of include/vx.h (tools/library.sh), and runs what tests it: the header against the exports,
+# the tests in C, C++, Python and Rust, texts of ten megabytes through each call, random buffers and columns of
+# Arrow's through each under sanitizers, what docs/embed/FFI.md shows, the programs of examples, the wheel and the
+# installation (tools/wheel.sh, tools/install_test.sh), and the 213 expressions of bindings/tests, which the program
+# and the three languages have to answer alike. Ends with a line `bindings: N passed, M failed`, and with status 1
+# where something failed.
 #
 #     tools/bindings.sh [BUFFERS]     so many random buffers through each call, 100,000 where none is said
 #
-# Run it after the gate, over the crates that this proved. Elsewhere `rt lib` proves what isn't proved
-# yet. Compilers that aren't there are installed of Debian's packages, where that is allowed.
+# Run it after the gate, over the crates that this proved. Compilers that aren't there are installed of Debian's
+# packages, where that is allowed.
 set -eu
 cd "$(dirname "$0")/.."
 buffers=${1:-100000}
-out=$PWD/bindings/out
+top=$PWD
+out=$top/bindings/out
 mkdir -p "$out"
 passed=0
 failed=0
@@ -35,57 +36,6 @@ need() {
     if ! command -v "$1" >/dev/null; then
         apt-get update -qq && apt-get install -qq --no-install-recommends "$2" >/dev/null
     fi
-}
-
-# The gate leaves each crate that it proved, as a library without the mark by which `rt lib` would know
-# it; so it is named to the compiler here, which proves the exports over these crates and compiles them.
-compiled() {
-    kit=$(dirname "$(rt doc)")
-    set -- --crate-name vx_ffi src/lib.rt --crate-type staticlib
-    set -- "$@" --extern "std=$kit/rlibs/std.rlib" -L "dependency=$kit/rlibs"
-    for name in $(sed -n 's/^vx_ffi staticlib: //p' crates.txt); do
-        set -- "$@" --extern "$name=../$name/out/rlib/$name.rlib"
-    done
-    for folder in crates/*/out/rlib; do
-        set -- "$@" -L "dependency=../../$folder"
-    done
-    set -- "$@" --antt-project "$kit/rattle/logic/antt-project.json" --logic-built "$kit/logic_built"
-    (cd crates/vx_ffi && mkdir -p out && "$kit/bin/rattle" build "$@" --toolchain "$kit/toolchain" \
-        -o out/libvx_ffi.a)
-}
-
-# The objects of bindings/arrow, which are C.
-arrow_objects() {
-    mkdir "$out/objects/arrow"
-    for file in bindings/arrow/*.c; do
-        gcc -std=c11 -Wall -Wextra -Wpedantic -Wconversion -Werror -O2 -fPIC -Iinclude \
-            -c "$file" -o "$out/objects/arrow/$(basename "$file" .c).o" || return 1
-    done
-}
-
-# One object of several, in which the calls alone have names for others.
-joined() {
-    object=$1
-    shift
-    ld -r -o "$object" "$@" && objcopy --wildcard --keep-global-symbol="vx_*" "$object"
-}
-
-# The library of the exports, beside the three calls of C's allocator that it makes, and Arrow's columns.
-library() {
-    rlib=crates/vx_ffi_calls/out/rlib
-    if [ -d "$rlib" ] && [ ! -e "$rlib/stamp" ]; then
-        compiled >"$out/build.log" 2>&1 || { tail -20 "$out/build.log"; return 1; }
-    else
-        (cd crates/vx_ffi && rt lib) >"$out/build.log" 2>&1 || { tail -20 "$out/build.log"; return 1; }
-    fi
-    rm -rf "$out/objects" "$out/libvx.a"
-    mkdir "$out/objects"
-    arrow_objects || return 1
-    (cd "$out/objects" && ar x ../../../crates/vx_ffi/out/libvx_ffi.a &&
-        ar x "$(dirname "$(rt doc)")/c/liblibc_c.a" && joined ../vx.o ./*.o && joined ../vx_arrow.o arrow/*.o &&
-        cd .. && ar rcs libvx.a vx.o vx_arrow.o &&
-        gcc -shared -Wl,-soname,libvx.so.0 -Wl,--version-script=../c/exports.map -o libvx.so vx.o vx_arrow.o &&
-        cp libvx.so libvx.so.0)
 }
 
 # The shared library's own name, by which a program that is linked to it finds it.
@@ -148,20 +98,30 @@ examples() {
         diff "$out/scan_python.txt" "$out/scan_cpp.txt"
 }
 
-# A wheel that holds the library is for this system, and works as it is unpacked.
+# A wheel that holds the library is for this system, and is whole: installed where nothing else is, it runs the examples
+# of its docstrings.
 wheel() {
     rm -rf "$out/wheel"
-    mkdir "$out/wheel"
-    cp -r bindings/python "$out/wheel/source" && cp "$out/libvx.so" "$out/wheel/source/vx/" &&
-        debian_python setuptools python3-setuptools && debian_python wheel python3-wheel &&
-        (cd "$out/wheel/source" && /usr/bin/python3 -c "from setuptools import build_meta; build_meta.build_wheel('..')") \
-            >"$out/wheel.log" 2>&1 &&
-        /usr/bin/python3 -m zipfile -e "$out/wheel/vx-0.1.0-py3-none-linux_$(uname -m).whl" "$out/wheel/unpacked" &&
-        env -u VX_LIBRARY PYTHONPATH="$out/wheel/unpacked" python3 -c "import vx; assert vx.version() == vx.__version__"
+    debian_python setuptools python3-setuptools && debian_python wheel python3-wheel &&
+        debian_python ensurepip python3-venv && PYTHON=/usr/bin/python3 tools/wheel.sh "$out/wheel" &&
+        /usr/bin/python3 -m venv --clear "$out/venv" &&
+        "$out/venv/bin/pip" install -q --no-index "$out/wheel/vx-0.1.0-py3-none-linux_$(uname -m).whl" &&
+        (cd "$out/wheel" && env -u VX_LIBRARY "$out/venv/bin/python" "$top/bindings/tests/docstrings.py") |
+        tee "$out/docstrings.txt" && grep -q " 0 failed, of $out/venv/" "$out/docstrings.txt"
+}
+
+# The types of the package, where there is mypy.
+python_types() {
+    if ! command -v mypy >/dev/null; then
+        echo "bindings: Python's types weren't checked, without mypy"
+        return
+    fi
+    (cd bindings/python && mypy --no-error-summary --cache-dir "$out/mypy" vx)
 }
 
 rust_tests() {
-    (cd bindings/rust && cargo test -q --offline && cargo build -q --offline --lib --examples)
+    (cd bindings/rust && cargo test -q --offline && cargo build -q --offline --lib --examples &&
+        RUSTDOCFLAGS="-D warnings" cargo doc -q --offline --no-deps)
 }
 
 # Where no variable names the folder of the library, the build says which one has to.
@@ -193,7 +153,7 @@ need g++ g++
 need python3 python3
 need cargo cargo
 export PYTHONDONTWRITEBYTECODE=1 CARGO_TARGET_DIR="$out/rust" VX_LIBRARY_DIR="$out"
-try "the library" library
+try "the library" tools/library.sh
 if [ "$failed" -eq 0 ]; then
     try "the header" tools/header.py "$out/libvx.a"
     try "the shared library's name" named
@@ -207,7 +167,9 @@ if [ "$failed" -eq 0 ]; then
     try "C++" cpp_program
     try "Python" python_tests
     try "numpy" numpy_tests
+    try "Python's types" python_types
     try "the wheel" wheel
+    try "the installation" tools/install_test.sh
     try "the examples" examples
     try "Rust" rust_tests
     try "Rust without the library" rust_without_library
