@@ -119,6 +119,15 @@ python_types() {
     (cd bindings/python && mypy --no-error-summary --cache-dir "$out/mypy" vx)
 }
 
+# What the fuzzer begins with, through each call, where there is its compiler.
+fuzzer_inputs() {
+    if ! command -v clang >/dev/null; then
+        echo "bindings: the fuzzer's inputs weren't tried, without clang"
+        return
+    fi
+    tools/fuzz.sh 0
+}
+
 rust_tests() {
     (cd bindings/rust && cargo test -q --offline && cargo build -q --offline --lib --examples &&
         RUSTDOCFLAGS="-D warnings" cargo doc -q --offline --no-deps)
@@ -163,6 +172,7 @@ if [ "$failed" -eq 0 ]; then
     try "long texts" "$out/test" long
     try "random buffers" "$out/test_sanitized" fuzz "$buffers" 1
     try "random columns" "$out/test_sanitized" arrow "$buffers" 1
+    try "the fuzzer's inputs" fuzzer_inputs
     try "threads over a batch" threads
     try "C++" cpp_program
     try "Python" python_tests
