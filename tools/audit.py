@@ -16,7 +16,8 @@ import re
 import subprocess
 import sys
 
-import map as crate_map
+sys.dont_write_bytecode = True
+import map as crate_map  # noqa: E402
 
 OTHERS = ("Examples", "Tests and the benchmark")
 FUNCTION = re.compile(r'( *)(pub )?(?:(?:const|final|unsafe|extern "C") )*fn (\w+)')

@@ -1,9 +1,10 @@
 #!/bin/sh
 # Makes the Python package as a wheel that holds the library, for this system and any Python 3.9 or later: the file
 # vx-VERSION-py3-none-PLATFORM.whl in the folder. The same files give the same bytes; the times in it are that of
-# SOURCE_DATE_EPOCH, or the first that a wheel can have. It needs the modules setuptools and wheel, and no network.
+# SOURCE_DATE_EPOCH, or the first that a wheel can have. It needs setuptools and wheel, as Debian has
+# them for /usr/bin/python3 (or another PYTHON), and no network.
 #
-#     [PYTHON=python3] tools/wheel.sh FOLDER
+#     tools/wheel.sh FOLDER
 #
 # Run it after tools/library.sh.
 set -eu
@@ -21,7 +22,7 @@ cp bindings/out/libvx.so "$room/vx/"
 chmod -R u=rwX,go=rX "$room"
 cd "$room"
 export SOURCE_DATE_EPOCH="${SOURCE_DATE_EPOCH:-315532800}"
-"${PYTHON:-python3}" -c 'import sys; from setuptools import build_meta; build_meta.build_wheel(sys.argv[1])' "$folder" >log 2>&1 || {
+"${PYTHON:-/usr/bin/python3}" -c 'import sys; from setuptools import build_meta; build_meta.build_wheel(sys.argv[1])' "$folder" >log 2>&1 || {
     cat log
     exit 1
 }
