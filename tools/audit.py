@@ -33,6 +33,22 @@ AXIOMS = re.compile(r"^axioms (\w+): (.*)$", re.MULTILINE)
 VERDICT = re.compile(r"^logic=proved (.*)$", re.MULTILINE)
 
 
+BY_HAND = """
+## One theorem by hand, in an hour
+
+`referenced_field_paths` says which fields an expression reads, and its clause `fixes` that no other field matters.
+
+1. `tools/where.py referenced_field_paths` prints where it is, each definition that its contract cites, and its wrong
+   bodies.
+2. Read the contract, then `FixTheMeaning` and what that cites in its turn, down to what a node means at a row
+   (`Rows` of `crates/vx_fn/specs`). Ask whether you would say it so. `proofs/` needn't be read: the kit checks it.
+3. `rt ci vx_rewrite_paths` proves it, and those below it, on a copy, and ends with `0 failed`. The line `logic=proved`
+   of each crate has no word of trust that isn't above.
+4. Change a thing in the body, and run `rt check` in `crates/vx_rewrite_paths`: it prints the goal that is open.
+   `tools/planted.sh vx_rewrite_paths` does so for bodies that are wrong in other ways.
+"""
+
+
 @dataclasses.dataclass
 class Function:
     """A function that a crate exports, with its contract."""
@@ -205,6 +221,7 @@ def main():
     section_of("Public functions whose errors aren't said", text, silent)
     tested()
     trusted(found, logs)
+    print(BY_HAND, end="")
 
 
 if __name__ == "__main__":
