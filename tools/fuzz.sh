@@ -45,8 +45,12 @@ random() {
     seed=$(date +%s)
     while [ "$(date +%s)" -lt "$end" ]; do
         for kind in fuzz arrow; do
-            bindings/out/test_sanitized "$kind" 10000 "$seed" >"$out/random" 2>&1 ||
-                mv "$out/random" "$out/found/$kind-of-seed-$seed"
+            left=$((end - $(date +%s)))
+            status=0
+            # (0 would be no limit; 124 says that the time was over)
+            timeout "$((left > 0 ? left : 1))" bindings/out/test_sanitized "$kind" 10000 "$seed" \
+                >"$out/random" 2>&1 || status=$?
+            [ "$status" -eq 0 ] || [ "$status" -eq 124 ] || mv "$out/random" "$out/found/$kind-of-seed-$seed"
         done
         seed=$((seed + 1))
     done
