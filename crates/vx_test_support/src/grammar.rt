@@ -101,7 +101,7 @@ const INSTANT_LITERALS: [&str; 3] = [
     "null::timestamp(us, \"UTC\")?",
 ];
 
-const TRUTHS: [&str; 40] = [
+const TRUTHS: [&str; 43] = [
     "(T1 and T2)",
     "(T1 or T2)",
     "(not T1)",
