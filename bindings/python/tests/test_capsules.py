@@ -5,6 +5,7 @@ import itertools
 import pathlib
 import struct
 import sys
+import types
 import unittest
 
 sys.path.insert(0, str(pathlib.Path(__file__).parents[1]))
@@ -57,6 +58,15 @@ class Capsules(unittest.TestCase):
             self.assertEqual(plan.select(batch).tolist(), [True, False, True])
         with vx.Plan("$ > 5", "i32?") as plan:
             self.assertEqual(plan.scan(numbers([7, 1], b"\1")), [True, None])
+
+    def test_evaluated(self):
+        batch = record_batch(3, x=numbers([1, 5, 7], b"\5"), s=texts("a", "b", "c"))
+        self.assertEqual(vx.evaluate("x + 1", batch), [2, None, 8])
+        self.assertEqual(vx.evaluate("x is null or s = 'c'", batch, "{x=i32?, s=utf8?}"), [False, True, True])
+        with self.assertRaises(vx.RefusedError):
+            vx.evaluate("x + s", batch)
+        with self.assertRaises(vx.DataError):
+            vx.evaluate("x + 1", batch, "{x=i64?, s=utf8?}")
 
     def test_columns(self):
         batch = record_batch(3, x=numbers([1, 5, 7], b"\5"), s=texts("a", "b", "c"))
@@ -267,6 +277,13 @@ class Streams(unittest.TestCase):
             self.assertEqual([(column.type, len(column)) for column in columns], [("i32?", 2), ("i32?", 0), ("i32?", 3)])
             for work in (sums.scan_batches, plan.filter_batches):
                 self.assertEqual([len(column) for column in work([{"x": 7}])], [1])
+
+    def test_evaluated(self):
+        self.assertEqual(vx.evaluate("x + 1", self.stream), [2, 6, 8, 10, -1])
+        self.assertEqual(vx.evaluate("x + 1", Stream([], type=self.stream.batches[0])), [])
+        once = iter([self.stream.__arrow_c_stream__()])
+        reader = types.SimpleNamespace(__arrow_c_stream__=lambda: next(once))
+        self.assertEqual(vx.evaluate("x + 1", reader), [2, 6, 8, 10, -1])
 
     def test_no_batches(self):
         none = Stream([], type=self.stream.batches[0])

@@ -5,7 +5,7 @@ from __future__ import annotations
 import json
 from typing import Any, Iterable, List, Mapping, Optional, Sequence, Union
 
-from . import _arrow, _numpy
+from . import _arrow, _capsules, _numpy
 from ._batches import count_of
 from ._library import call
 from ._plans import PlanDescription
@@ -113,15 +113,18 @@ def evaluate(expression: str, rows: Rows, schema: Optional[str] = None) -> Any:
     >>> evaluate("x + 1", {"x": [1, 5]}, "{x=i32}")
     [2, 6]
 
-    The rows are a list, a dict of columns, or an Arrow table; of the first two a list is answered, and
-    of a table an array. The schema says their type; that of a table may be left out. A struct is a
-    dict, a list a list, binary data bytes, and a floating-point number a float.
+    The rows are a list, a dict of columns, a table of pyarrow's, or what another library exports by
+    ``__arrow_c_array__`` or ``__arrow_c_stream__``; of a table an array is answered, and else a list. The
+    schema says their type; that of a table and of what is exported may be left out. A struct is a dict, a
+    list a list, binary data bytes, and a floating-point number a float.
 
     Raises as :func:`check` does, :class:`DataError` for a row that isn't of the type, and
     :class:`FaultError` where the expression faults; the ``record`` of its ``place`` says at which row,
     from 1 on.
     """
     is_table = _arrow.is_table(rows)
+    if not is_table and (_capsules.is_exporter(rows) or _capsules.is_stream(rows)):
+        return _evaluate_exported(expression, rows, schema)
     if is_table and schema is None:
         schema = str(_arrow.schema_of(rows))
     if schema is None:
@@ -132,6 +135,17 @@ def evaluate(expression: str, rows: Rows, schema: Optional[str] = None) -> Any:
     dtype = type_of(check(expression, schema))
     values = values_of(page, dtype)
     return _arrow.array_of(values, dtype) if is_table else values
+
+
+def _evaluate_exported(expression: str, rows: Any, schema: Optional[str]) -> List[Any]:
+    """What the expression means at each row of what another library exports."""
+    # (a plan is made by the calls of this module)
+    from ._kept import Plan
+
+    batches = _capsules.opened(rows) if _capsules.is_stream(rows) else rows
+    with Plan(expression, _capsules.schema_of(batches) if schema is None else schema) as plan:
+        values: List[Any] = plan.scan(batches)
+        return values
 
 
 def _rows_of(rows: Any) -> List[Any]:

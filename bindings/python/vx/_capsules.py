@@ -37,8 +37,8 @@ def is_exporter(batch: Any) -> bool:
 
 
 def is_stream(batches: Any) -> bool:
-    """Whether this is a table or a reader of a library that exports batches one after the other."""
-    return hasattr(batches, "__arrow_c_stream__") and not is_exporter(batches)
+    """Whether this is a table or a reader of a library that exports batches one after the other, or opened already."""
+    return isinstance(batches, OpenStream) or (hasattr(batches, "__arrow_c_stream__") and not is_exporter(batches))
 
 
 def exported(batch: Any) -> Exported:
@@ -52,7 +52,7 @@ _ASK = ctypes.CFUNCTYPE(ctypes.c_int, ctypes.c_void_p, ctypes.c_void_p)
 _TOLD = ctypes.CFUNCTYPE(ctypes.c_char_p, ctypes.c_void_p)
 
 
-class _Stream:
+class OpenStream:
     """The batches that a library exports, for as long as the capsule is there: this releases the stream."""
 
     def __init__(self, batches: Any) -> None:
@@ -87,9 +87,14 @@ class _Stream:
         return struct
 
 
+def opened(batches: Any) -> OpenStream:
+    """The stream of the batches, as a library may export them once."""
+    return batches if isinstance(batches, OpenStream) else OpenStream(batches)
+
+
 def exported_batches(batches: Any) -> Iterator[Exported]:
     """The batches that the library exports, each read when it is asked for. Raises OSError where the library stops."""
-    stream = _Stream(batches)
+    stream = opened(batches)
     schema = stream.schema()
     for array in stream.arrays():
         yield Exported(schema.address, array.address, (schema, array))
@@ -107,7 +112,7 @@ def schema_of(columns: Any) -> str:
     elif is_exporter(columns):
         capsule = columns.__arrow_c_array__()[0]
     elif is_stream(columns):
-        schema = _Stream(columns).schema()
+        schema = opened(columns).schema()
         return arrow_schema(schema.address)
     else:
         raise TypeError(f"{type(columns).__name__} has no __arrow_c_schema__")
