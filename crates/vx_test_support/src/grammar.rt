@@ -1,9 +1,10 @@
 // The grammar of generated trees: by what a tree gives, the source text of its node over its children,
 // so that it may stand wherever an operand does.
 //
-// `T1` stands for a tree that gives a truth value, `N1`, `F1`, `C1`, `D1`, `I1`, `S1`, `P1` for a whole number, a
-// float, a decimal, a day, an instant, a text, a pair of numbers, and `X1` for what the node gives; the same of
-// them in one row is the same tree. `#t`, `#n`, `#f`, `#c`, `#d`, `#i`, `#s` and `#x` stand for literals.
+// `T1` stands for a tree that gives a truth value, `N1`, `F1`, `G1`, `C1`, `W1`, `D1`, `I1`, `S1`, `P1` for a whole
+// number, a float of 64 and of 32 bits, a decimal of few and of most digits, a day, an instant, a text, a pair of
+// numbers, and `X1` for what the node gives; the same of them in one row is the same tree. `#t`, `#n`, `#f`, `#g`,
+// `#c`, `#w`, `#d`, `#i`, `#s` and `#x` stand for literals.
 
 /// What a tree gives.
 #[derive(Clone, Copy)]
@@ -13,18 +14,22 @@ pub enum Kind {
     Text,
     Pair,
     Float,
+    Single,
     Decimal,
+    Wide,
     Day,
     Instant,
 }
 
-pub const KINDS: [Kind; 8] = [
+pub const KINDS: [Kind; 10] = [
     Kind::Truth,
     Kind::Number,
     Kind::Text,
     Kind::Pair,
     Kind::Float,
+    Kind::Single,
     Kind::Decimal,
+    Kind::Wide,
     Kind::Day,
     Kind::Instant,
 ];
@@ -38,7 +43,9 @@ impl Kind {
             Kind::Text => &["s"],
             Kind::Pair => &["a"],
             Kind::Float => &["f", "g"],
+            Kind::Single => &["h"],
             Kind::Decimal => &["p"],
+            Kind::Wide => &["w"],
             Kind::Day => &["d"],
             Kind::Instant => &["t"],
         }
@@ -52,7 +59,9 @@ impl Kind {
             Kind::Text => &["\"ab\"", "\"a%\"", "\"_b%\"", "null::utf8?"],
             Kind::Pair => &["pack(x: 1, y: 2)", "pack(x: null::i32?, y: 2)?"],
             Kind::Float => &FLOAT_LITERALS,
+            Kind::Single => &SINGLE_LITERALS,
             Kind::Decimal => &DECIMAL_LITERALS,
+            Kind::Wide => &WIDE_LITERALS,
             Kind::Day => &DAY_LITERALS,
             Kind::Instant => &INSTANT_LITERALS,
         }
@@ -66,7 +75,9 @@ impl Kind {
             Kind::Text => &TEXTS,
             Kind::Pair => &PAIRS,
             Kind::Float => &FLOATS,
+            Kind::Single => &SINGLES,
             Kind::Decimal => &DECIMALS,
+            Kind::Wide => &WIDES,
             Kind::Day => &DAYS,
             Kind::Instant => &INSTANTS,
         }
@@ -82,11 +93,26 @@ const FLOAT_LITERALS: [&str; 6] = [
     "null::f64?",
 ];
 
+const SINGLE_LITERALS: [&str; 5] = [
+    "\"0.1\"::f32",
+    "\"-0.0\"::f32",
+    "\"3.4028235e38\"::f32",
+    "\"nan\"::f32",
+    "null::f32?",
+];
+
 const DECIMAL_LITERALS: [&str; 4] = [
     "\"9.99\"::decimal(6, 2)",
     "\"-0.01\"::decimal(6, 2)",
     "\"9999.99\"::decimal(6, 2)",
     "null::decimal(6, 2)?",
+];
+
+const WIDE_LITERALS: [&str; 4] = [
+    "\"9999999999999999999999999999.9999999999\"::decimal(38, 10)",
+    "\"-0.0000000001\"::decimal(38, 10)",
+    "\"12.5\"::decimal(38, 10)",
+    "null::decimal(38, 10)?",
 ];
 
 const DAY_LITERALS: [&str; 3] = [
@@ -101,7 +127,7 @@ const INSTANT_LITERALS: [&str; 3] = [
     "null::timestamp(us, \"UTC\")?",
 ];
 
-const TRUTHS: [&str; 43] = [
+const TRUTHS: [&str; 49] = [
     "(T1 and T2)",
     "(T1 or T2)",
     "(not T1)",
@@ -136,8 +162,14 @@ const TRUTHS: [&str; 43] = [
     "(#f <= F1 < F2)",
     "(F1 is null)",
     "(f >= #f and f < #f)",
+    "(G1 < #g)",
+    "(G1 = G2)",
+    "(#g <= G1 < G2)",
     "(C1 <= #c)",
     "(C1 != C2)",
+    "(W1 <= #w)",
+    "(W1 = W2)",
+    "(w > #w and w <= #w)",
     "(D1 >= #d)",
     "(D1 = D2)",
     "(d > #d and #d > d)",
@@ -171,11 +203,27 @@ const FLOATS: [&str; 7] = [
     "cast(F1 as f64?)",
 ];
 
+const SINGLES: [&str; 6] = [
+    "(G1 + #g)",
+    "(G1 - G2)",
+    "(G1 * #g)",
+    "(G1 / G2)",
+    "fill_null(G1, #g)",
+    "cast(G1 as f32?)",
+];
+
 const DECIMALS: [&str; 4] = [
     "(C1 + #c)",
     "(C1 - C2)",
     "fill_null(C1, #c)",
     "cast(C1 as decimal(6, 2)?)",
+];
+
+const WIDES: [&str; 4] = [
+    "(W1 + #w)",
+    "(W1 - W2)",
+    "fill_null(W1, #w)",
+    "cast(W1 as decimal(38, 10)?)",
 ];
 
 const DAYS: [&str; 2] = ["fill_null(D1, #d)", "cast(D1 as date?)"];

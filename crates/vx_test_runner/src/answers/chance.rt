@@ -22,12 +22,13 @@ use vx_test_support::{Maker, Seeds, Unread, column, expression};
 use vx_tree::{BoundExpression, Column, Expression, VortexError, VortexResult};
 
 const SCOPE: &str =
-    "{a={x=i32?,y=i32}?,b=i32?,m=bool?,s=utf8,f=f64?,g=f64,p=decimal(6, 2)?,d=date?,t=timestamp(us, \"UTC\")?}";
+    "{a={x=i32?,y=i32}?,b=i32?,m=bool?,s=utf8,f=f64?,g=f64,h=f32?,p=decimal(6, 2)?,w=decimal(38, 10)?,d=date?,t=timestamp(us, \"UTC\")?}";
 
 // With null in each field that may be null.
-const ROWS: &str = "{null,1,true,'ab,f64(0.2),f64(nan),999,null,1706696130250000} \
-    {{null,2},null,false,',null,f64(-0.0),null,19782,null} \
-    {{3,-1},3,null,'abab,f64(-inf),f64(0.0),-1,-1,-1}";
+const ROWS: &str =
+    "{null,1,true,'ab,f64(0.2),f64(nan),f32(0.1),999,99999999999999999999999999999999999999,null,1706696130250000} \
+    {{null,2},null,false,',null,f64(-0.0),null,null,-1,19782,null} \
+    {{3,-1},3,null,'abab,f64(-inf),f64(0.0),f32(-inf),-1,null,-1,-1}";
 
 /// What arrays, queries and scans of so many trees answer beside their evaluation, from a seed on:
 /// `SEED COUNT`. Of the trees that are answered otherwise the one of the shortest text is told, and
