@@ -62,6 +62,15 @@ impl Found {
         Ok(found)
     }
 
+    /// Whether each row where the other doesn't fault has the same value here.
+    pub fn has(&self, other: &Found) -> bool {
+        let mut here = self.values.iter();
+        other
+            .values
+            .iter()
+            .all(|wanted| here.any(|value| value == wanted))
+    }
+
     /// Whether no row of so many faults.
     pub fn is_whole(&self, batches: &Batches) -> bool {
         self.values.len() == batches.each.len()
