@@ -4,3 +4,4 @@ mod Lined
 mod Spelled
 mod JsonNumbers
 mod FloatNumbers
+mod QuotesRead

@@ -8,6 +8,7 @@ mod infer;
 mod kept;
 mod parser;
 mod plan;
+mod quotes;
 mod records;
 mod rows;
 mod write;

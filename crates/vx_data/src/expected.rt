@@ -70,6 +70,12 @@ pub enum Expected {
     /// A record has more cells than the first.
     #[error("expected at most {0} cells, as many as the first record has")]
     Cells(u64),
+    /// No quote closes a cell of the record.
+    #[error("expected a double quote that closes the cell which the one at byte {at} of the record opens")]
+    ClosingQuote { at: usize },
+    /// A cell goes on behind the quote that closes it.
+    #[error("expected the end of the cell at byte {at} of the record, behind its closing double quote")]
+    CellEnd { at: usize },
     /// The header lacks the name, and has others that the type doesn't have.
     #[error("expected the name to stand in the header, which has others")]
     InHeader,

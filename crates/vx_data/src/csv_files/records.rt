@@ -1,6 +1,7 @@
 // The records of a CSV file.
 use crate::csv_files::format::CsvFormat;
 use crate::csv_files::kept::Kept;
+use crate::csv_files::quotes::{WrongQuotes, misquoted};
 use crate::error::DataError;
 use crate::expected::Expected;
 use crate::fault::Fault;
@@ -15,6 +16,7 @@ pub struct CsvRecords<R> {
     alloc: Global,
     reader: Reader<Kept<R>>,
     has_header: bool,
+    delimiter: u8,
     comment: Option<u8>,
     cells: ByteRecord,
     // How many cells the first record has, once it is read.
@@ -47,6 +49,7 @@ impl<R: Read + Drop> CsvRecords<R> {
                 .comment(format.comment)
                 .from_reader(alloc, Kept::new(alloc, reader)),
             has_header: format.has_header,
+            delimiter: format.delimiter,
             comment: format.comment,
             cells: ByteRecord::new(alloc),
             width: None,
@@ -74,8 +77,9 @@ impl<R: Read + Drop> CsvRecords<R> {
         Ok(())
     }
 
-    /// Reads the next record, and tells whether there is one. Refuses a record that has more cells than the first; and
-    /// with the reader's error, and with `OutOfMemory`, after which no record is read.
+    /// Reads the next record, and tells whether there is one. Refuses a record with a cell that a quote opens and none
+    /// closes, or that goes on behind its closing quote; one that has more cells than the first; and with the reader's
+    /// error, and with `OutOfMemory`, after which no record is read.
     pub fn read_record(&mut self) -> Result<bool, DataError> {
         if self.again {
             self.again = false;
@@ -89,10 +93,15 @@ impl<R: Read + Drop> CsvRecords<R> {
         }
     }
 
-    // Whether what was found is a record. Refuses one that has more cells than the first.
+    // Whether what was found is a record. Refuses one whose quotes aren't those of cells, and one that has more cells
+    // than the first.
     fn checked(&mut self, found: bool) -> Result<bool, DataError> {
         if !found || self.is_open_comment() {
             return Ok(false);
+        }
+        if let Some(wrong) = misquoted(self.record(), self.delimiter) {
+            let fault = Fault::new(self.alloc, expected_of(wrong));
+            return Err(fault.on_line(self.alloc, self.line));
         }
         let count = self.cells.len();
         match self.width {
@@ -140,6 +149,14 @@ impl<R: Read + Drop> CsvRecords<R> {
     /// The last record as it stood, without the end of its line and without a byte order mark.
     pub fn record(&self) -> &[u8] {
         record_in(self.text.get(self.start..).unwrap_or(&[]))
+    }
+}
+
+// What a record lacks whose quotes are wrong.
+fn expected_of(wrong: WrongQuotes) -> Expected {
+    match wrong {
+        WrongQuotes::Open(at) => Expected::ClosingQuote { at },
+        WrongQuotes::Behind(at) => Expected::CellEnd { at },
     }
 }
 
