@@ -3,17 +3,24 @@
 # them unless told otherwise. Over a table of 50 rows with nulls, SQLite, PostgreSQL and ClickHouse have to give the value of
 # the source for each row where it doesn't fault, to fail at arithmetic that has to fail (docs/embed/ENGINES.md), and to keep
 # the rows of which a filter is true. Expressions that have no text in an engine, since it lacks days, decimals and instants or
-# something of them, are counted by reason. An engine that isn't installed is installed from Debian's packages, and where
-# it can't be, or doesn't start, a line says so. PostgreSQL is started on a socket in a temporary folder, ClickHouse at a port
-# on loopback, and both are stopped at the end.
-# Ends with status 1 where an engine answers otherwise, and prints what.
+# something of them, are counted by reason. An engine that isn't installed is installed from Debian's packages.
+# PostgreSQL is started on a socket in a temporary folder, ClickHouse at a port on loopback, and both are stopped at the end.
+# Ends with status 1 where an engine answers otherwise, and prints what; else with status 3 and a line that names the
+# engines that aren't here, or don't start, if there are any.
 # `rt ci` or `rt run vx_sql_rows` has built the program.
 set -eu
 cd "$(dirname "$0")/.."
 seed=${1:-1}
 count=${2:-5000}
 program=$PWD/crates/vx_sql_rows/out/vx_sql_rows
+missing=
 . tools/servers.sh
+
+# Tells that nothing was compared with an engine, and why.
+is_missing() {
+    echo "engines: $1: $2: nothing was compared"
+    missing="$missing $1"
+}
 
 # Makes the script for an engine, and what it should print.
 make_cases() {
@@ -48,7 +55,7 @@ compare() {
 
 run_sqlite() {
     command -v sqlite3 >/dev/null || add_package sqlite3 || {
-        echo "engines: sqlite: isn't installed here, and couldn't be: nothing was compared"
+        is_missing sqlite "isn't installed here, and couldn't be"
         return 0
     }
     make_cases sqlite
@@ -58,14 +65,14 @@ run_sqlite() {
 
 run_postgres() {
     has_postgres || {
-        echo "engines: postgres: isn't installed here, and couldn't be: nothing was compared"
+        is_missing postgres "isn't installed here, and couldn't be"
         return 0
     }
     # A database that compares texts by the rules of a language shows where a comparison isn't told to go by bytes, and
     # another order of days and months where a day is told by it.
     make_database data --locale-provider=icu --icu-locale=en-US || make_database data || cat "$room/made"
     start_postgres data || {
-        echo "engines: postgres: is installed here, and doesn't start: nothing was compared"
+        is_missing postgres "is installed here, and doesn't start"
         return 0
     }
     make_cases postgres
@@ -75,12 +82,12 @@ run_postgres() {
 
 run_clickhouse() {
     has_clickhouse || {
-        echo "engines: clickhouse: isn't installed here, and couldn't be: nothing was compared"
+        is_missing clickhouse "isn't installed here, and couldn't be"
         return 0
     }
     port=$(free_port 19400)
     start_clickhouse server "$port" || {
-        echo "engines: clickhouse: is installed here, and doesn't start: nothing was compared"
+        is_missing clickhouse "is installed here, and doesn't start"
         tail -n 20 "$room/server/out" || true
         return 0
     }
@@ -94,3 +101,7 @@ run_clickhouse() {
 run_sqlite
 run_postgres
 run_clickhouse
+[ -z "$missing" ] || {
+    echo "engines: missing:$missing"
+    exit 3
+}

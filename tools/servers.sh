@@ -19,8 +19,12 @@ take_apart() {
     awk -v room="$room" '/^-- [a-z]+$/ { file = room "/" $2; printf "" >file; next } { print >file }' "$1"
 }
 
-# Installs packages, if that is allowed here.
+# Installs packages, if that is allowed here. Where the list of packages is old, it is read anew.
 add_package() {
     [ "$(id -u)" -eq 0 ] && command -v apt-get >/dev/null || return 1
+    install_package "$@" || { timeout 300 apt-get update -q >"$room/installed" 2>&1 </dev/null && install_package "$@"; }
+}
+
+install_package() {
     DEBIAN_FRONTEND=noninteractive timeout 300 apt-get install -y -q "$@" >"$room/installed" 2>&1 </dev/null
 }
