@@ -138,7 +138,7 @@ class Errors(unittest.TestCase):
     def test_help(self):
         for expression, schema, wanted in [
             ("id > 5i32", "{id=i64}", "id is i64, 5i32 is i32: write 5i64"),
-            ('id > "5"', "{id=i64}", "what it stands beside is a number: write one, as in x > 5"),
+            ('id > "5"', "{id=i64}", "id is i64: write a whole number, as in id > 5"),
             ('Name = "Bob"', "{name=utf8}", "there is name"),
         ]:
             with self.subTest(expression), self.assertRaises(vx.RefusedError) as caught:

@@ -17,6 +17,17 @@ pub struct UnfitLiteral {
     pub scalar: Scalar,
     /// That type.
     pub dtype: DType,
+    /// The field of that type that it stands beside, if it is known.
+    pub beside: Option<FieldBeside>,
+}
+
+/// A field of the rows.
+#[derive(Debug, Drop)]
+pub struct FieldBeside {
+    /// The bytes of the expression that name it.
+    pub span: Span,
+    /// Its type, which may be nullable.
+    pub dtype: DType,
 }
 
 /// Why a command prints no page.

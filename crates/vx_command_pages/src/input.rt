@@ -9,6 +9,7 @@ ghost use Rattle.vx_places.specs.Refusals.{IsFirstRefusal};
 ghost use Rattle.vx_command_pages.specs.Spans.{IsRefusalAt};
 ghost use Rattle.vx_command_pages.specs.Inputs.{Reads, ReadsAs, ReadsType, IsUnread, IsUnreadOver, IsUnreadSchema, IsUnreadQuery, IsRefusal, IsRefusedOver, IsRefusedWith};
 
+use crate::beside::field_beside;
 use crate::error::{CommandError, UnfitLiteral};
 use crate::refused::RefusedNode;
 use crate::remedy::Remedy;
@@ -52,10 +53,11 @@ pub fn read_written(alloc: Global, text: &str) -> Result<Box<Written<'_>>, Comma
     }
 }
 
-/// The expression that was read, over rows of that type. Fails at a literal that is none of the type that it takes from what it
-/// stands beside, or that has none, and for want of memory.
+/// The expression that was read of that text, over rows of that type. Fails at a literal that is none of the type that it takes
+/// from what it stands beside, or that has none, and for want of memory.
 pub fn read_over(
     alloc: Global,
+    text: &str,
     written: Box<Written<'_>>,
     scope: &DType,
 ) -> Result<Box<Placed>, CommandError>
@@ -64,13 +66,13 @@ pub fn read_over(
 {
     match over(alloc, Box::into_inner(written), scope) {
         Ok(placed) => Ok(Box::new(alloc, placed)?),
-        Err(error) => Err(unsettled(alloc, error)),
+        Err(error) => Err(unsettled(alloc, text, scope, error)),
     }
 }
 
-// The error of a text that is refused so.
-fn unsettled(alloc: Global, error: OverError) -> CommandError
-    ensures { (text : List ℕ) (s : LogicalType) → RefusesOver 200 text s error → IsRefusedOver text s result }
+// The error of a text that is refused so, over rows of that type.
+fn unsettled(alloc: Global, text: &str, scope: &DType, error: OverError) -> CommandError
+    ensures { (read : List ℕ) (s : LogicalType) → RefusesOver 200 read s error → IsRefusedOver read s result }
 {
     match error {
         OverError::OutOfMemory => CommandError::OutOfMemory,
@@ -82,14 +84,14 @@ fn unsettled(alloc: Global, error: OverError) -> CommandError
             dtype,
         } => {
             let span = Span { start, end };
-            match Box::new(
-                alloc,
-                UnfitLiteral {
-                    span,
-                    scalar,
-                    dtype,
-                },
-            ) {
+            let beside = field_beside(alloc, text, span, &dtype, scope);
+            let literal = UnfitLiteral {
+                span,
+                scalar,
+                dtype,
+                beside,
+            };
+            match Box::new(alloc, literal) {
                 Ok(literal) => CommandError::Unfit(literal),
                 Err(_) => CommandError::OutOfMemory,
             }
@@ -129,7 +131,7 @@ pub fn read_query(alloc: Global, expression: &str, schema: &str) -> Result<ReadQ
 {
     let written = read_written(alloc, expression)?;
     let scope = read_schema(alloc, schema)?;
-    let placed = read_over(alloc, written, &scope)?;
+    let placed = read_over(alloc, expression, written, &scope)?;
     Ok(ReadQuery { placed, scope })
 }
 

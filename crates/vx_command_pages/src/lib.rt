@@ -1,6 +1,7 @@
 // What commands are given and the pages that they make: messages, types, trees, plans.
 #![tactic(auto)]
 
+mod beside;
 mod conjuncts;
 mod error;
 mod excerpt;
@@ -28,7 +29,7 @@ mod types;
 mod unfit;
 
 pub use conjuncts::joins_conjuncts;
-pub use error::{CommandError, Status, UnfitLiteral};
+pub use error::{CommandError, FieldBeside, Status, UnfitLiteral};
 pub use explanation::{explanation_of, explanation_page};
 pub use fields::nearest_field;
 pub use graph::graph_page;

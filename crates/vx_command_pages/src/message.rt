@@ -3,7 +3,7 @@ use crate::error::CommandError;
 use crate::help::{help_for, help_for_unread};
 use crate::remedy::{Help, Remedy};
 use crate::report::{Report, Span};
-use crate::unfit::{UnfitText, help_for_unfit};
+use crate::unfit::UnfitText;
 use std::fmt;
 use std::fmt::{Display, Formatter, Write};
 use vx_tree::VortexError;
@@ -82,7 +82,7 @@ impl Display for Message<'_> {
             }
             CommandError::Unfit(literal) => {
                 let text = self.expression.text;
-                let help = Some(Help::Said(help_for_unfit(literal)));
+                let help = Some(Help::Literal(literal, text));
                 let told = UnfitText { literal, text };
                 let report = self.expression.report(told, literal.span, help);
                 report.fmt(f)

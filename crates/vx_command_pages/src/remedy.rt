@@ -1,6 +1,8 @@
 // What would do in place of what is refused.
+use crate::error::UnfitLiteral;
 use crate::report::Span;
 use crate::shown::Shown;
+use crate::unfit::write_fitting;
 use std::fmt;
 use std::fmt::{Display, Formatter, Write};
 
@@ -83,6 +85,8 @@ pub enum Help<'a> {
     File(&'a str),
     /// What the remedy of a node of that expression says.
     Remedy(&'a Remedy, &'a str),
+    /// What would do in place of a literal of that expression.
+    Literal(&'a UnfitLiteral, &'a str),
 }
 
 impl Display for Help<'_> {
@@ -91,6 +95,7 @@ impl Display for Help<'_> {
             Help::Said(text) => f.write_str(text),
             Help::File(name) => write!(f, "the text of that file is `@{}`", Shown(name)),
             Help::Remedy(remedy, expression) => write_remedy(remedy, expression, f),
+            Help::Literal(literal, text) => write_fitting(literal, text, f),
         }
     }
 }

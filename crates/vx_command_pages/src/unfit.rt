@@ -1,6 +1,7 @@
 // Messages of literals that are none of the type that they take from what they stand beside.
 use crate::error::UnfitLiteral;
 use crate::remedy::cited;
+use crate::shown::Shown;
 use std::fmt;
 use std::fmt::{Display, Formatter, Write};
 use vx_source::{TypeText, is_pointed};
@@ -22,38 +23,64 @@ impl Display for UnfitText<'_> {
     }
 }
 
-/// What would do in place of the literal.
-pub(crate) fn help_for_unfit(literal: &UnfitLiteral) -> &'static str {
-    match (&literal.dtype, literal.scalar.value()) {
-        (DType::Primitive(..), Value::Utf8(_)) if is_pointed(&literal.scalar) => {
-            "what it stands beside is whole numbers: write one without a point, as in x > 5"
-        }
-        (DType::Primitive(..), Value::Int(_)) => {
-            "it takes the type of what it stands beside: say a wider one in the schema, as i64"
-        }
-        (DType::Primitive(..), _) => "what it stands beside is a number: write one, as in x > 5",
-        (DType::Float(..), _) => {
-            "what it stands beside is floating-point numbers: write a number, as in x > 1.5"
-        }
-        (DType::Decimal(..), _) => {
-            "what it stands beside is a decimal: write a number that it holds, as in x > 12.50"
-        }
-        (DType::Date(_), _) => {
-            "what it stands beside is a date: write one, as in x > \"2024-01-31\""
-        }
-        (DType::Timestamp(timestamp, _), _) => match &timestamp.zone {
-            Some(_) => {
-                "what it stands beside is a timestamp: write one, as in x > \"2024-01-31T10:15:00Z\""
-            }
-            None => {
-                "what it stands beside is a timestamp: write one, as in x > \"2024-01-31T10:15:00\""
-            }
-        },
-        (DType::Utf8(_), _) => "what it stands beside is a text: write one, as in x = \"5\"",
-        (DType::Bool(_), _) => "what it stands beside is a truth value: write `true` or `false`",
-        (DType::Binary(_), _) => "what it stands beside is bytes: write some, as in x = 0x0a",
-        (DType::List(..) | DType::FixedSizeList(..) | DType::Struct(..), _) => {
-            "what it stands beside is a list or a struct: write its type, as in [1, 2]::list(i32)"
-        }
+/// Writes what the literal of the text stands beside, as it is called there unless it is long, with its type; and what would do.
+pub(crate) fn write_fitting<W: Write>(
+    literal: &UnfitLiteral,
+    text: &str,
+    f: &mut Formatter<W>,
+) -> fmt::Result {
+    let Fitting { wanted, example } = what_fits(literal);
+    let beside = literal.beside.as_ref();
+    let named = beside.and_then(|field| Some((cited(text, field.span)?, &field.dtype)));
+    let (name, dtype) = named.unwrap_or(("what it stands beside", &literal.dtype));
+    let called = named.map_or("x", |(name, _)| name);
+    write!(
+        f,
+        "{} is {}: write {wanted}",
+        Shown(name),
+        Shown(TypeText(dtype))
+    )?;
+    if example.is_empty() {
+        Ok(())
+    } else {
+        write!(f, ", as in {} {example}", Shown(called))
     }
+}
+
+// What would do in place of a literal.
+#[derive(Clone, Copy)]
+struct Fitting {
+    // What to write.
+    wanted: &'static str,
+    // What stands behind the field in an example; an empty text where what to write is one.
+    example: &'static str,
+}
+
+// What would do in place of the literal.
+fn what_fits(literal: &UnfitLiteral) -> Fitting {
+    let (wanted, example) = match (&literal.dtype, literal.scalar.value()) {
+        (DType::Primitive(..), Value::Int(_)) => (
+            "a number in its range, or say a wider type in the schema",
+            "",
+        ),
+        (DType::Primitive(..), _) => ("a whole number", "> 5"),
+        (DType::Float(..), _) => ("a number", "> 1.5"),
+        (DType::Decimal(decimal, _), _) if decimal.scale() == 0 => (
+            "a number that it holds",
+            "> 5",
+        ),
+        (DType::Decimal(..), _) => ("a number that it holds", "> 0.5"),
+        (DType::Date(_), _) => ("a day", "> \"2024-01-31\""),
+        (DType::Timestamp(timestamp, _), _) => match &timestamp.zone {
+            Some(_) => ("an instant", "> \"2024-01-31T10:15:00Z\""),
+            None => ("an instant", "> \"2024-01-31T10:15:00\""),
+        },
+        (DType::Utf8(_), _) => ("a text", "= \"5\""),
+        (DType::Bool(_), _) => ("`true` or `false`", ""),
+        (DType::Binary(_), _) => ("bytes", "= 0x0a"),
+        (DType::List(..) | DType::FixedSizeList(..) | DType::Struct(..), _) => {
+            ("its type, as in [1, 2]::list(i32)", "")
+        }
+    };
+    Fitting { wanted, example }
 }

@@ -4,10 +4,10 @@ use std::alloc::Global;
 use std::fmt;
 use std::fmt::{Display, Formatter, Write};
 use std::io::Read;
-use vx_command_pages::{Shown, Span, UnfitLiteral};
+use vx_command_pages::{Shown, UnfitLiteral};
 use vx_data::OtherFields;
 use vx_records::{CsvRows, JsonRecords, RecordReader};
-use vx_source::{DEFAULT_NESTING, Placed, parse_open};
+use vx_source::parse;
 use vx_tree::{Expression, ScalarFnRef};
 use vx_types::{DType, FieldName, Value};
 
@@ -62,40 +62,12 @@ pub(crate) fn number_texts<D: Read + Drop>(
     ) {
         return None;
     }
-    let readings = parse_open(alloc, text, DEFAULT_NESTING).ok()?;
+    let field = literal.beside.as_ref()?;
+    let path = text.get(field.span.start..field.span.end)?;
     let mut names = Vec::new(alloc);
-    push_names(column_beside(&readings.first, literal.span)?, &mut names)?;
+    push_names(&parse(alloc, path).ok()?, &mut names)?;
     let text = records.number_text(alloc, names.as_slice())?;
     Some(NumberTexts { names, text })
-}
-
-// The column that stands beside what was read from those bytes.
-fn column_beside(placed: &Placed, span: Span) -> Option<&Expression> {
-    let mut node = &placed.expression;
-    let mut places = &placed.places;
-    // (nodes are nested no deeper than they have bytes)
-    for _ in 0..=placed.places.end {
-        let Expression::Scalar { children, .. } = node else {
-            return None;
-        };
-        let index = places
-            .children
-            .iter()
-            .position(|below| below.start <= span.start && span.end <= below.end)?;
-        places = places.children.get(index)?;
-        if places.start == span.start && places.end == span.end {
-            return children.iter().find(|child| is_column(*child));
-        }
-        node = children.get(index)?;
-    }
-    None
-}
-
-fn is_column(node: &Expression) -> bool {
-    match node {
-        Expression::Root => false,
-        Expression::Scalar { scalar_fn, .. } => matches!(scalar_fn, ScalarFnRef::GetItem(_)),
-    }
 }
 
 // Adds the names of the column, those of a field of a field one after another.

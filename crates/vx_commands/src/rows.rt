@@ -291,7 +291,7 @@ fn inferred<D: Source>(
     let Ok(scope) = Box::new(alloc, dtype) else {
         return Err(Stop::from(CommandError::OutOfMemory));
     };
-    match read_over(alloc, written, &scope) {
+    match read_over(alloc, command.expression.text, written, &scope) {
         Ok(placed) => Ok((ReadQuery { placed, scope }, read)),
         Err(CommandError::Unfit(literal)) => {
             let records = GuessedRecords {

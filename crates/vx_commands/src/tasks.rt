@@ -99,7 +99,7 @@ pub(crate) fn selected_value(
     scope: &DType,
 ) -> Result<Box<Placed>, CommandError> {
     let written = read_written(alloc, text)?;
-    read_over(alloc, written, scope)
+    read_over(alloc, text, written, scope)
 }
 
 // Writes what the expression means at the records.
