@@ -43,6 +43,11 @@ impl<'a> RefusedNode<'a> {
         if let (VortexError::NoSuchField(name), [input]) = (self.refusal, self.children) {
             return self.other_fields(alloc, input, name);
         }
+        if let (VortexError::NotAStruct, [input]) = (self.refusal, self.children)
+            && matches!(input, Expression::Root)
+        {
+            return Ok(Some(no_fields(alloc, self.scope)?));
+        }
         let operands = self.operands(alloc)?;
         if operands.is_empty() {
             return Ok(None);
@@ -147,6 +152,15 @@ impl<'a> RefusedNode<'a> {
             (refusal, _) => Ok(String::from_str(alloc, help_for(refusal).unwrap_or(""))?),
         }
     }
+}
+
+// What is told of a field of rows that have none.
+fn no_fields(alloc: Global, scope: &DType) -> Result<Remedy, AllocError> {
+    let dtype = type_told(alloc, scope)?;
+    Ok(Remedy {
+        parts: Vec::new(alloc),
+        advice: format!(in alloc; "the schema is {dtype}, which has no fields: `$` is the row")?,
+    })
 }
 
 fn is_atomic(dtype: &DType) -> bool {
