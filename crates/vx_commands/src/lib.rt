@@ -14,6 +14,7 @@ mod explained;
 mod filtered;
 mod guessed;
 mod message;
+mod notes;
 mod number_texts;
 mod outputs;
 mod page;

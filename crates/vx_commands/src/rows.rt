@@ -6,6 +6,7 @@ use crate::data::{
 };
 use crate::error::RowsError;
 use crate::explained::{ChunksQuery, explain_chunks};
+use crate::notes::Notes;
 use crate::number_texts::{GuessedRecords, number_texts};
 use crate::outputs::OutputFormat;
 use crate::records_query::RecordsQuery;
@@ -46,6 +47,20 @@ pub enum RecordsTask {
     ExplainChunks,
     /// Which chunks have to be read is written in that form; the records are such statistics.
     PlanChunks(ChunksForm),
+}
+
+impl RecordsTask {
+    // Whether what may be meant otherwise is told of the expression.
+    fn is_noted(self) -> bool {
+        match self {
+            RecordsTask::Filter
+            | RecordsTask::FilterByChunks(_)
+            | RecordsTask::Count
+            | RecordsTask::Select(_)
+            | RecordsTask::Evaluate(_) => true,
+            RecordsTask::Explain | RecordsTask::ExplainChunks | RecordsTask::PlanChunks(_) => false,
+        }
+    }
 }
 
 /// A command that goes over the records of a file.
@@ -89,7 +104,7 @@ impl<'a> RowsCommand<'a> {
 
 /// Runs the command over the records that the reader gives, which is read once, in blocks. What it prints is written on
 /// `out` as it comes, and an error as a message on `err`, where a filter by chunks also tells how many
-/// of them weren't evaluated. The status is `Done`; or `Wrong` for a text
+/// of them weren't evaluated, and a note tells of a comparison with null. The status is `Done`; or `Wrong` for a text
 /// that can't be read, an expression that is refused or faults, or a record that isn't of the schema's
 /// type; or `Failed` where memory, the reader or a writer fails. Where `out` is a pipe that its reader has
 /// closed, the run ends there as `Done`.
@@ -198,8 +213,30 @@ impl<W: Write, E: Write> Run<'_, '_, W, E> {
         self.over(&placed, records)
     }
 
-    // Does with the records what the command says, and tells how many were left out that can't be read.
+    // Does with the records what the command says, and tells what may be meant otherwise.
     fn over<R: RecordReader + Drop>(self, placed: &Placed, records: R) -> Result<(), Stop> {
+        let Run {
+            alloc,
+            command,
+            out,
+            err,
+        } = self;
+        let run = Run {
+            alloc,
+            command,
+            out,
+            err: &mut *err,
+        };
+        run.over_records(placed, records)?;
+        if command.work.is_noted() {
+            // (a note changes nothing, and so does one that isn't written)
+            let _ = write!(err, "{}", Notes::of(command.expression.text, placed));
+        }
+        Ok(())
+    }
+
+    // Does with the records what the command says, and tells how many were left out that can't be read.
+    fn over_records<R: RecordReader + Drop>(self, placed: &Placed, records: R) -> Result<(), Stop> {
         let Run {
             alloc,
             command,
