@@ -31,20 +31,127 @@ pub(crate) fn help_for_unread(text: &str, at: usize, expected: &Expected) -> Opt
         Expected::FittingType => Some(
             "the value has to be one of the type behind it: 300 is no i8, and null::i32 lacks a `?`",
         ),
-        _ => help_for_sign(text, at),
+        _ => help_for_foreign(text, at),
     }
 }
 
-// What would do in place of a sign that other languages have.
-fn help_for_sign(text: &str, at: usize) -> Option<&'static str> {
-    let bytes = text.as_bytes();
-    match bytes.get(at)? {
-        b'&' => Some("write `and`, as in x > 1 and y > 2"),
-        b'|' => Some("write `or`, as in x > 1 or y > 2"),
-        b'!' => Some("write `not`, as in not (x > 1)"),
-        b'~' => Some("match a text by `like`, as in s like \"a%\""),
-        b';' => Some("leave the `;` out: a text is one expression"),
-        b'[' => Some("there are no subscripts: a field is named, as in x.y"),
-        _ => None,
+// What would do in place of words or signs of other languages.
+fn help_for_foreign(text: &str, at: usize) -> Option<&'static str> {
+    let (before, behind) = text.split_at_checked(at)?;
+    for (last, first, help) in FOREIGN {
+        if ends_with_word(before.trim_end(), last) && begins_with_word(behind, first) {
+            return Some(*help);
+        }
     }
+    None
+}
+
+// Words or signs that other languages have: one that stands before the byte at which reading stopped, or an empty text where
+// that doesn't matter; one that begins there, or an empty text; and what to write in their place. The first that fits is told.
+const FOREIGN: &[(&str, &str, &str)] = &[
+    ("", "&", "write `and`, as in x > 1 and y > 2"),
+    ("", "|", "write `or`, as in x > 1 or y > 2"),
+    ("", "!", "write `not`, as in not (x > 1)"),
+    ("", "~", LIKE),
+    ("", ";", "leave the `;` out: a text is one expression"),
+    (
+        "",
+        "[",
+        "there are no subscripts: a field is named, as in x.y",
+    ),
+    ("", "^", POWER),
+    ("*", "*", POWER),
+    ("/", "/", "write `/`, as in x / 2, or for a comment `--`"),
+    ("/", "*", COMMENT),
+    ("", "/*", COMMENT),
+    ("", "//", COMMENT),
+    ("", "#", COMMENT),
+    ("==", "=", "write `=`, as in x = 1"),
+    ("!=", "=", "write `!=`, as in x != 1"),
+    (
+        "<=",
+        ">",
+        "write `=`, and for nulls `is null`, as in x = y or x is null and y is null",
+    ),
+    ("=", "<", "write `<=`, as in x <= 1"),
+    ("=", ">", "write `>=`, as in x >= 1"),
+    ("", "??", COALESCE),
+    ("", "?:", COALESCE),
+    ("", "?", "write `if`, as in if(x > 1, y, z)"),
+    ("", "regexp", LIKE),
+    ("", "rlike", LIKE),
+    ("", "glob", LIKE),
+    ("", "match", LIKE),
+    ("", "similar", LIKE),
+    ("", "contains", "write `like`, as in s like \"%a%\""),
+    (
+        "",
+        "escape",
+        "a backslash escapes what follows it in a pattern, as in s like \"5\\%\"",
+    ),
+    ("", "mod", "write `%`, as in x % 2"),
+    ("", "div", "write `/`, as in x / 2"),
+    (
+        "",
+        "xor",
+        "write `!=` between two truth values, as in (x > 1) != (y > 2)",
+    ),
+    ("", "isnull", "write `is null`, as in x is null"),
+    ("", "notnull", "write `is not null`, as in x is not null"),
+    (
+        "case",
+        "",
+        "write the whole condition behind `when`, as in case when x = 1 then y else z end",
+    ),
+    ("date", "\"", DAY),
+    ("date", "'", DAY),
+    ("timestamp", "\"", INSTANT),
+    ("timestamp", "'", INSTANT),
+    (
+        "where",
+        "",
+        "leave `where` out: a text is the condition alone",
+    ),
+];
+
+const LIKE: &str = "match a text by `like`, as in s like \"a%\"";
+
+const POWER: &str = "there are no powers: write the product, as in x * x";
+
+const COALESCE: &str = "write `coalesce`, as in coalesce(x, 0)";
+
+const COMMENT: &str = "a comment begins with `--`, and ends with its line";
+
+const DAY: &str = "write the type behind it, as in \"2024-01-31\"::date";
+
+const INSTANT: &str = "write the type behind it, as in \"2024-01-31T10:15:00\"::timestamp(s)";
+
+// Whether the text ends with the word, in either case, or with the sign.
+fn ends_with_word(text: &str, word: &str) -> bool {
+    let Some(at) = text.len().checked_sub(word.len()) else {
+        return false;
+    };
+    match text.split_at_checked(at) {
+        Some((before, end)) => {
+            end.eq_ignore_ascii_case(word)
+                && !(is_within(before.bytes().last()) && is_within(word.bytes().next()))
+        }
+        None => false,
+    }
+}
+
+// Whether the text begins with the word, in either case, or with the sign.
+fn begins_with_word(text: &str, word: &str) -> bool {
+    match text.split_at_checked(word.len()) {
+        Some((front, behind)) => {
+            front.eq_ignore_ascii_case(word)
+                && !(is_within(word.bytes().last()) && is_within(behind.bytes().next()))
+        }
+        None => false,
+    }
+}
+
+// Whether the byte is one of a word.
+fn is_within(byte: Option<u8>) -> bool {
+    byte.is_some_and(|byte| byte.is_ascii_alphanumeric() || byte == b'_')
 }
