@@ -2,14 +2,17 @@
 use std::fmt;
 use std::fmt::{Display, Formatter, Write};
 use vx_command_pages::Shown;
-use vx_source::{Placed, Places};
+use vx_source::{Placed, Places, ScalarText};
 use vx_tree::{Expression, Operator, ScalarFnRef};
+use vx_types::{DType, Scalar, Value};
 
-/// What is told of an expression, on a line: of its first comparison with null. Takes no memory.
+/// What is told of an expression, each on a line: of its first comparison with null, and of the first whole number that is
+/// read as a day or an instant. Takes no memory.
 #[derive(Clone, Copy)]
 pub(crate) struct Notes<'a> {
     text: &'a str,
     null: Option<NullComparison<'a>>,
+    count: Option<Count<'a>>,
 }
 
 // A comparison with null.
@@ -20,12 +23,20 @@ struct NullComparison<'a> {
     field: Option<&'a str>,
 }
 
+// A whole number that is read as a day or an instant.
+#[derive(Clone, Copy)]
+struct Count<'a> {
+    written: &'a str,
+    scalar: &'a Scalar,
+}
+
 impl<'a> Notes<'a> {
     /// What is told of the expression that was read of that text.
     pub(crate) fn of(text: &'a str, placed: &'a Placed) -> Notes<'a> {
         let mut notes = Notes {
             text,
             null: None,
+            count: None,
         };
         notes.see(&placed.expression, Some(&placed.places));
         notes
@@ -43,6 +54,9 @@ impl<'a> Notes<'a> {
         match (scalar_fn, children.as_slice()) {
             (ScalarFnRef::Binary(operator), [left, right]) if self.null.is_none() => {
                 self.null = self.comparison(*operator, left, right, places);
+            }
+            (ScalarFnRef::Literal(scalar), _) if self.count.is_none() => {
+                self.count = self.count_at(scalar, places);
             }
             _ => {}
         }
@@ -73,6 +87,25 @@ impl<'a> Notes<'a> {
             None
         };
         Some(NullComparison { operator, field })
+    }
+
+    // The literal, if it is a day or an instant and is written as a whole number.
+    fn count_at(&self, scalar: &'a Scalar, places: Option<&'a Places>) -> Option<Count<'a>> {
+        let (DType::Date(_) | DType::Timestamp(..), Value::Int(_)) = (
+            scalar.dtype(),
+            scalar.value(),
+        ) else {
+            return None;
+        };
+        let written = self.text_at(places)?;
+        if written
+            .bytes()
+            .all(|byte| matches!(byte, b'0'..=b'9' | b'-' | b'+' | b'_'))
+        {
+            Some(Count { written, scalar })
+        } else {
+            None
+        }
     }
 
     // The text that was read there.
@@ -115,8 +148,11 @@ fn is_field(node: &Expression) -> bool {
 
 impl Display for Notes<'_> {
     fn fmt<W: Write>(&self, f: &mut Formatter<W>) -> fmt::Result {
-        match self.null {
-            Some(null) => null.fmt(f),
+        if let Some(null) = self.null {
+            null.fmt(f)?;
+        }
+        match self.count {
+            Some(count) => count.fmt(f),
             None => Ok(()),
         }
     }
@@ -131,5 +167,21 @@ impl Display for NullComparison<'_> {
             Operator::NotEq => writeln!(f, ": write `{field} is not null`"),
             _ => f.write_str("\n"),
         }
+    }
+}
+
+impl Display for Count<'_> {
+    fn fmt<W: Write>(&self, f: &mut Formatter<W>) -> fmt::Result {
+        let Count { written, scalar } = *self;
+        let example = match scalar.dtype() {
+            DType::Timestamp(timestamp, _) if timestamp.zone.is_some() => "2024-01-31T10:15:00Z",
+            DType::Timestamp(..) => "2024-01-31T10:15:00",
+            _ => "2024-01-31",
+        };
+        let read = ScalarText(scalar);
+        writeln!(
+            f,
+            "note: {written} is counted from 1970, and is {read}: write a text, as \"{example}\""
+        )
     }
 }

@@ -104,7 +104,7 @@ impl<'a> RowsCommand<'a> {
 
 /// Runs the command over the records that the reader gives, which is read once, in blocks. What it prints is written on
 /// `out` as it comes, and an error as a message on `err`, where a filter by chunks also tells how many
-/// of them weren't evaluated, and a note tells of a comparison with null. The status is `Done`; or `Wrong` for a text
+/// of them weren't evaluated, and notes tell of a comparison with null, and of a whole number that is a day. The status is `Done`; or `Wrong` for a text
 /// that can't be read, an expression that is refused or faults, or a record that isn't of the schema's
 /// type; or `Failed` where memory, the reader or a writer fails. Where `out` is a pipe that its reader has
 /// closed, the run ends there as `Done`.
