@@ -9,7 +9,7 @@ use crate::input::{bind, read_query};
 use crate::passes::push_passes;
 use crate::paths::ReadPaths;
 use crate::planned::plan_of;
-use crate::sources::source_text;
+use crate::shown::{Shown, ShownLines};
 use std::alloc::{AllocError, Global};
 use vx_rewrite::BoundPartitionedExpr;
 use vx_scan::ScanPlan;
@@ -60,16 +60,16 @@ fn tree_lines(
     source: &Expression,
     bound: &BoundExpression,
 ) -> Result<String, AllocError> {
-    let text = SourceText(source);
-    let dtype = TypeText(bound.dtype());
-    let tree = bound.display_tree();
+    let text = Shown(SourceText(source));
+    let dtype = Shown(TypeText(bound.dtype()));
+    let tree = ShownLines(bound.display_tree());
     format!(in alloc; "text: {text}\ntype: {dtype}\ntree:\n{tree}\n")
 }
 
 // Adds the lines of the plan.
 fn push_plan(alloc: Global, plan: &ScanPlan, page: &mut String) -> Result<(), AllocError> {
-    let tree = source_text(alloc, plan.tree())?;
-    let paths = ReadPaths(plan.paths());
+    let tree = Shown(SourceText(plan.tree()));
+    let paths = Shown(ReadPaths(plan.paths()));
     page.push_str(format!(in alloc; "plan: {tree}\nreads: {paths}\n")?.as_str())?;
     match plan.split() {
         Some(split) => push_split(alloc, split, page),
@@ -86,7 +86,7 @@ fn push_split(
     push_tree(alloc, "root", &split.root, page)?;
     let names = split.partition_names.as_slice();
     for (name, tree) in names.iter().zip(split.partitions.as_slice()) {
-        let name = format!(in alloc; "partition {name}")?;
+        let name = format!(in alloc; "partition {}", Shown(name))?;
         push_tree(alloc, name.as_str(), tree, page)?;
     }
     Ok(())
@@ -99,6 +99,6 @@ fn push_tree(
     tree: &BoundExpression,
     page: &mut String,
 ) -> Result<(), AllocError> {
-    let text = source_text(alloc, tree)?;
+    let text = Shown(SourceText(tree));
     page.push_str(format!(in alloc; "{name}: {text}\n")?.as_str())
 }

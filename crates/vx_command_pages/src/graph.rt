@@ -68,9 +68,9 @@ fn push_node(
     };
     let dtype = TypeText(node.dtype()).to_string(alloc)?;
     page.push_str(format!(in alloc; "  n{number} [label=\"")?.as_str())?;
-    push_quoted(function.as_str(), page)?;
+    push_quoted(alloc, function.as_str(), page)?;
     page.push_str("\\n")?;
-    push_quoted(dtype.as_str(), page)?;
+    push_quoted(alloc, dtype.as_str(), page)?;
     page.push_str("\"];\n")
 }
 
@@ -84,19 +84,22 @@ fn push_edge(
 ) -> Result<(), AllocError> {
     let name = name.to_string(alloc)?;
     page.push_str(format!(in alloc; "  n{above} -> n{below} [label=\"")?.as_str())?;
-    push_quoted(name.as_str(), page)?;
+    push_quoted(alloc, name.as_str(), page)?;
     page.push_str("\"];\n")
 }
 
 // Adds what is to stand between double quotes in a label, where an ampersand begins the name of a
-// character, as in HTML.
-fn push_quoted(text: &str, page: &mut String) -> Result<(), AllocError> {
+// character, as in HTML. Control characters but ends of lines are shown escaped.
+fn push_quoted(alloc: Global, text: &str, page: &mut String) -> Result<(), AllocError> {
     for c in text.chars() {
         match c {
             '"' => page.push_str("\\\"")?,
             '\\' => page.push_str("\\\\")?,
             '&' => page.push_str("&amp;")?,
             '\n' => page.push_str("\\n")?,
+            _ if c.is_control() => {
+                page.push_str(format!(in alloc; "\\{}", c.escape_default())?.as_str())?;
+            }
             _ => page.push(c)?,
         }
     }

@@ -5,6 +5,7 @@ ghost use Rattle.vx_tree.specs.Trees.{WellTyped};
 ghost use Rattle.vx_tree.specs.Views.{bound_of};
 
 use crate::error::CommandError;
+use crate::shown::Shown;
 use crate::sources::source_text;
 use std::alloc::Global;
 use vx_rewrite::{Pass, run_passes};
@@ -68,7 +69,8 @@ fn pushed(
     let tree = passed(alloc, &before.tree, pass)?;
     let text = source_text(alloc, &tree)?;
     if text != before.text {
-        page.push_str(format!(in alloc; "{name}: {text}\n")?.as_str())?;
+        let shown = Shown(text.as_str());
+        page.push_str(format!(in alloc; "{name}: {shown}\n")?.as_str())?;
     }
     Ok(TreeText { tree, text })
 }

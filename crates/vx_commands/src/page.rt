@@ -3,7 +3,7 @@ ghost use Rattle.vx_tree.specs.Trees.{EachWellTyped, WellTyped};
 ghost use Rattle.vx_tree.specs.Views.{bound_of, bounds_of};
 
 use std::alloc::{AllocError, Global};
-use vx_command_pages::joins_conjuncts;
+use vx_command_pages::{Shown, joins_conjuncts};
 use vx_prune::{ChunkStats, TypedBounds, Verdict, bounds, verdict};
 use vx_tree::{BoundExpression, DType, ScalarFnRef};
 
@@ -103,5 +103,6 @@ fn push_known(
         bounds: bounds(tree, stats),
         dtype: tree.dtype(),
     };
+    let (tree, within) = (Shown(tree), Shown(within));
     page.push_str(format!(in alloc; "{margin}{tree}: {within}\n")?.as_str())
 }

@@ -12,7 +12,7 @@ use crate::selected::{SelectQuery, select};
 use crate::stop::Stop;
 use std::alloc::Global;
 use std::io::Write;
-use vx_command_pages::{CommandError, explanation_of, read_over, read_written};
+use vx_command_pages::{CommandError, Shown, explanation_of, read_over, read_written};
 use vx_data::WriteError;
 use vx_records::RecordReader;
 use vx_source::{Placed, TypeText};
@@ -132,7 +132,7 @@ fn explained<R: RecordReader, W: Write>(
 // The type of the records, what becomes of the expression, and the line above the rows.
 fn explanation(alloc: Global, placed: &Placed, dtype: &DType) -> Result<String, RowsError> {
     let page = explanation_of(alloc, placed, dtype)?;
-    match format!(in alloc; "schema: {}\n{page}rows:\n", TypeText(dtype)) {
+    match format!(in alloc; "schema: {}\n{page}rows:\n", Shown(TypeText(dtype))) {
         Ok(explanation) => Ok(explanation),
         Err(_) => Err(RowsError::Query(CommandError::OutOfMemory)),
     }
