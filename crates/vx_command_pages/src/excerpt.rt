@@ -3,6 +3,7 @@ use crate::position::{characters, line_start};
 use crate::report::Span;
 use std::fmt;
 use std::fmt::{Formatter, Write};
+use unicode_width::UnicodeWidthChar;
 
 // How many characters of a line are shown, and how many of these before what is underlined, where
 // the line has more.
@@ -73,11 +74,18 @@ impl<'a> Excerpt<'a> {
         if self.skipped > 0 {
             f.write_str("   ")?;
         }
-        for c in self.line.chars().skip(self.skipped).take(self.before) {
-            f.write_str(if c == '\t' { "\t" } else { " " })?;
+        let mut chars = self.line.chars().skip(self.skipped);
+        for c in chars.by_ref().take(self.before) {
+            if c == '\t' {
+                f.write_str("\t")?;
+            } else {
+                write_times(" ", columns(c), f)?;
+            }
         }
-        for _ in 0..self.underlined {
-            f.write_str("^")?;
+        let first = chars.next().map_or(1, columns);
+        write_times("^", first.max(1), f)?;
+        for c in chars.take(self.underlined.saturating_sub(1)) {
+            write_times("^", columns(c), f)?;
         }
         Ok(())
     }
@@ -93,6 +101,18 @@ fn line_at(text: &str, start: usize) -> &str {
         Some((line, _)) => line.strip_suffix('\r').unwrap_or(line),
         None => rest,
     }
+}
+
+// How many columns of a terminal the character takes, as it is shown.
+fn columns(c: char) -> usize {
+    shown(c).width().unwrap_or(1)
+}
+
+fn write_times<W: Write>(text: &str, times: usize, f: &mut Formatter<W>) -> fmt::Result {
+    for _ in 0..times {
+        f.write_str(text)?;
+    }
+    Ok(())
 }
 
 // The character, or a sign for one that would move the cursor.

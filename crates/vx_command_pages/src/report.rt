@@ -29,7 +29,7 @@ pub struct Span {
 /// ```
 ///
 /// A span over several lines is underlined up to the end of its first. Tabs stand below tabs, so that
-/// the carets are right at any width of them. Of a line of more than 100 characters the 100 around
+/// the carets are right at any width of them; below a wide character there are two carets. Of a line of more than 100 characters the 100 around
 /// the span are shown. Control characters are escaped in the message and the help, and have a sign in the
 /// line. Takes no memory, and time in the length of the text.
 #[derive(Clone, Copy, Drop)]

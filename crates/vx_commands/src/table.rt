@@ -3,6 +3,7 @@ use std::alloc::{AllocError, Global};
 use std::fmt;
 use std::fmt::{Display, Formatter};
 use std::io::Write;
+use unicode_width::UnicodeWidthStr;
 use vx_command_pages::Shown;
 use vx_data::WriteError;
 use vx_types::{Column, DType, Value};
@@ -55,12 +56,12 @@ impl Table {
         Ok(())
     }
 
-    // For each column how many characters its widest cell has.
+    // For each column how wide its widest cell is.
     fn widths(&self, alloc: Global) -> Result<Vec<usize>, AllocError> {
         let mut widths: Vec<usize> = Vec::new(alloc);
         for line in &self.lines {
             for (i, cell) in line.iter().enumerate() {
-                let width = cell.as_str().chars().count();
+                let width = cell.as_str().width();
                 match widths.get_mut(i) {
                     Some(widest) => *widest = width.max(*widest),
                     None => widths.push(width)?,
@@ -93,7 +94,7 @@ fn push_line(cells: &[String], widths: &[usize], text: &mut String) -> Result<()
             text.push_str(" ")?;
         }
         text.push_str(cell.as_str())?;
-        let filled = cell.as_str().chars().count();
+        let filled = cell.as_str().width();
         blanks = width.saturating_sub(filled).saturating_add(2);
     }
     text.push_str("\n")
