@@ -8,7 +8,8 @@
 #     share/vx/installed  the list of these files, and of the folders that were made for them
 #
 # An earlier installation is taken away first, by its list. No file says where it is, so that PREFIX may be moved. With
-# the variable DESTDIR all of it is put below that folder.
+# the variable DESTDIR all of it is put below that folder. Where PREFIX/lib is one of the system's folders of libraries, as
+# /usr/local/lib is, `ldconfig` tells the system of the library.
 #
 #     tools/install.sh PREFIX
 #     tools/install.sh --uninstall PREFIX
@@ -22,7 +23,7 @@ if [ "${1:-}" = --uninstall ]; then
     shift
 fi
 case $#${1:-} in
-    1/*) prefix=${DESTDIR:-}$1 ;;
+    1/*) prefix=$(realpath -m "${DESTDIR:-}$1") ;;
     *)
         echo "usage: tools/install.sh [--uninstall] PREFIX, which begins with /" >&2
         exit 2
@@ -35,6 +36,10 @@ trap 'rm -r "$room"' EXIT
 
 # Takes away what the list names: the files, and then the folders that are empty without them.
 uninstall() {
+    [ -e "$prefix/$list" ] || {
+        echo "install: nothing was installed below $prefix: there is no $list" >&2
+        exit 1
+    }
     cp "$prefix/$list" "$room/old"
     grep -v '/$' "$room/old" | (cd "$prefix" && xargs -d '\n' rm -f)
     grep '/$' "$room/old" | sort -r | (cd "$prefix" && xargs -r -d '\n' rmdir --ignore-fail-on-non-empty)
@@ -53,6 +58,10 @@ filled() {
 
 # Puts all files below a folder of their own.
 gather() {
+    [ -x crates/vx/out/vx ] || {
+        echo "install: there is no program crates/vx/out/vx: run \`rt ci\` first" >&2
+        exit 1
+    }
     put 755 crates/vx/out/vx bin/vx
     put 644 bindings/out/libvx.a lib/libvx.a
     put 644 "bindings/out/libvx.so.$version" "lib/libvx.so.$version"
