@@ -2,8 +2,11 @@
 use std::alloc::Global;
 use std::num::f64_from_bits_with_nan;
 use vx_expr::arrays::{
-    Array, BitPart, Bits, Validity, concat, days, floats, instants, primitive, texts,
+    Array, ArrayChunk, BitPart, Bits, Validity, concat, days, floats, instants, primitive,
+    scan_chunks, stats_of_array, struct_of, texts,
 };
+use vx_expr::dtype::Nullability::NonNullable;
+use vx_expr::dtype::PType::I32;
 use vx_expr::dtype::{TimeUnit, TimestampType};
 use vx_expr::prelude::*;
 
@@ -100,5 +103,45 @@ fn arrays_of_two_types_are_refused(rt: HostRuntime) -> VortexResult<()> {
     let numbers = primitive(alloc, vec![in alloc; 1i32, 2]?, None)?;
     let joined = concat(alloc, fruits(alloc)?.dtype(), &[numbers]);
     assert!(rt; matches!(joined, Err(VortexError::ScopeMismatch)));
+    Ok(())
+}
+
+/// Of which rows of chunks `x` is above 5, by statistics where these tell: a digit for each row.
+fn scanned(alloc: Global, batches: &[Array]) -> VortexResult<String> {
+    let schema = struct_type(alloc, [("x", I32.into())], NonNullable)?;
+    let filter = expr!(in alloc; gt(col("x"), lit(5)));
+    let planned = plan(alloc, &filter, &schema)?;
+    let mut chunks = Vec::new(alloc);
+    for batch in batches {
+        let stats = stats_of_array(alloc, batch, planned.paths())?;
+        chunks.push(ArrayChunk::new(batch, stats))?;
+    }
+    let mut page = String::new(alloc);
+    for rows in scan_chunks(alloc, &planned, chunks.into_iter()) {
+        let rows = rows?;
+        for i in 0..rows.len() {
+            page.push(if rows.get(i) { '1' } else { '0' })?;
+        }
+        page.push(' ')?;
+    }
+    Ok(page)
+}
+
+#[test]
+fn chunks_are_scanned_one_after_the_other(rt: HostRuntime) -> VortexResult<()> {
+    let alloc = rt.alloc();
+    let mut batches = Vec::new(alloc);
+    for numbers in [
+        vec![in alloc; 1i32, 2]?,
+        vec![in alloc; 3, 7, 9]?,
+        vec![in alloc; 6, 8]?,
+    ] {
+        let names = ["x"].into_field_names(alloc)?;
+        let count = numbers.len();
+        let x = primitive(alloc, numbers, None)?;
+        batches.push(struct_of(alloc, names, &[x], count, None)?)?;
+    }
+    let page = scanned(alloc, batches.as_slice())?;
+    assert_eq!(rt; page.as_str(), "00 011 11 ");
     Ok(())
 }
