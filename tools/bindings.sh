@@ -2,7 +2,7 @@
 # Builds the library of include/vx.h (tools/library.sh), and runs what tests it: the header against the exports,
 # the tests in C, C++, Python and Rust, texts of ten megabytes through each call, random buffers and columns of
 # Arrow's through each under sanitizers, what docs/embed/FFI.md shows, the programs of examples, the wheel and the
-# installation (tools/wheel.sh, tools/install_test.sh), and the 213 expressions of bindings/tests, which the program
+# installation (tools/wheel.sh, tools/install_test.sh), and the 216 expressions of bindings/tests, which the program
 # and the three languages have to answer alike. Ends with a line `bindings: N passed, M failed`, and with status 1
 # where something failed.
 #
