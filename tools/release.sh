@@ -6,10 +6,8 @@
 #     vx-VERSION.crate            the Rust package
 #     vx-VERSION.tar.gz           the sources
 #     AUDIT.md                    what is proved, tested and trusted (tools/audit.py)
-#     RELEASE                     the version, the commit, the kit, and how the gate ended
+#     RELEASE                     the version, the commit, the kit, how to install it, and how the gate ended
 #     SHA256SUMS                  the checksums of these, for `sha256sum -c`
-#
-# The first is unpacked where it may stay, or into a PREFIX by `tar -C PREFIX --strip-components=1 -xf`.
 #
 #     tools/release.sh FOLDER
 #     tools/release.sh --without-gate FOLDER      to try it, over what an earlier gate built
@@ -81,6 +79,7 @@ tools/audit.py "$room/gate.log" bindings/out/build.log >"$folder/AUDIT.md"
     echo "vx $version"
     echo "commit $(git rev-parse HEAD)"
     rt version
+    echo "unpack $installed.tar.gz where it may stay, or into a PREFIX by tar -C PREFIX --strip-components=1 -xf"
     cat "$room/ended"
 } >"$folder/RELEASE"
 (cd "$folder" && LC_ALL=C sha256sum -- * >"$room/sums" && mv "$room/sums" SHA256SUMS)
