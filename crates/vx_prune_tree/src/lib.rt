@@ -12,6 +12,7 @@ mod paths;
 mod places;
 mod predicates;
 mod reading;
+mod searches;
 pub mod statistics_laws;
 mod verdicts;
 
