@@ -24,12 +24,13 @@ use vx_tree::BoundExpression;
 /// Bounds of the tree's values in a chunk of these statistics. Asks a well-typed tree.
 ///
 /// Those of a path, which is the scope root or a field of a path, are what the statistics say of that
-/// path; those of another tree are made of its children's bounds, by its function; and null is within
-/// them only if it is of the tree's type. In each row of a batch of which the statistics are true, and
-/// on which the tree doesn't fault, the tree's value is within them.
+/// path; those of a search in a list that is a literal are made of `=` with each of its elements; those
+/// of another tree are made of its children's bounds, by its function; and null is within them only if
+/// it is of the tree's type. In each row of a batch of which the statistics are true, and on which the
+/// tree doesn't fault, the tree's value is within them.
 ///
-/// Takes no memory. Looks at each node of the tree no more than twice, and besides at each node of a
-/// path once for each entry of the statistics.
+/// Takes no memory. Looks at each node of the tree no more than three times, at each element of such a
+/// list once, and besides at each node of a path once for each entry of the statistics.
 pub fn bounds<'a>(e: &'a BoundExpression, stats: &'a ChunkStats) -> Bounds<'a>
     requires { WellTyped (bound_of e.now) }
     ensures exact { bounds_view result ≡ bounds_in stats.now (bound_of e.now) }
