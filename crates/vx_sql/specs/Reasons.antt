@@ -1,5 +1,5 @@
 -- Why a node has no SQL text.
-use Rattle.std.specs.Prelude.{ℕ, ℤ, pos, Bool, false, not, ◌==◌, ◌&&◌, List, [], ◌∷◌, Option, Some, None, length, if◌then◌else◌, nat_lt}
+use Rattle.std.specs.Prelude.{ℕ, ℤ, pos, Bool, true, false, not, ◌==◌, ◌&&◌, ◌||◌, List, [], ◌∷◌, Option, Some, None, length, if◌then◌else◌, nat_lt}
 use Rattle.std.specs.Int.{int_div_euclid}
 use Rattle.std.specs.List.{list_any, count_by}
 use Rattle.std.specs.Option.{option_or, is_some}
@@ -8,9 +8,11 @@ use Rattle.vx_floats.specs.Texts.{has_value_text}
 use Rattle.vx_literals.specs.Days.{civil_at}
 use Rattle.vx_literals.specs.Instants.{units_a_day}
 use Rattle.vx_source_types.specs.Names.{same_word}
-use Rattle.vx_value.specs.Types.{Name, number, floating, date, timestamp, LogicalType, ty, atomic, Datum, null, bool, int, float, utf8, bytes, list_of, struct_of}
+use Rattle.vx_value.specs.Columns.{Constant}
+use Rattle.vx_value.specs.Types.{Name, number, floating, date, timestamp, LogicalType, ty, atomic, Datum, null, bool, int, float, utf8, bytes, list_of, struct_of, Data, no_datum, datum}
 use Rattle.vx_floats.specs.declared.arithmetic.Arithmetic.{Arithmetic}
 use Rattle.vx_fn.specs.Functions.{Function, case_when, get_item, literal, pack, select, fill_null, zip, Operation, compares, and_also, or_else, computes, binary, logical_not, between, like, is_null, is_not_null, mask, cast, starts_with, byte_length, list_contains, arity_of, is_atomic}
+use Rattle.vx_fn.specs.Values.{has_null}
 use Rattle.vx_tree.specs.Nodes.{bound_at, bound_count_of}
 use Rattle.vx_tree.specs.Trees.{BoundTrees}
 use Rattle.vx_sql.specs.declared.dialect.Dialect.{Dialect}
@@ -18,11 +20,12 @@ use Rattle.vx_sql.specs.declared.dialect.Dialect.TheVariants.{Postgres, Sqlite, 
 use Rattle.vx_sql.specs.declared.unsupported.Reason.{Reason}
 use Rattle.vx_sql.specs.declared.unsupported.Reason.TheVariants.{ChildCount, UnknownType, FloatOrder, FloatBits, UnknownFunction, NestedLiteral, PatternNotLiteral, FillNotLiteral, FarDay, EmptyName, LongName, AmbiguousName, Nul, Backslash, Keyword}
 use Rattle.vx_sql.specs.Calculations.{check_of}
-use Rattle.vx_sql.specs.Children.{passes, has_atomic_first, names_first, literal_in, is_value}
+use Rattle.vx_sql.specs.Children.{passes, has_atomic_first, names_first, literal_in, is_value, admits_null_at}
 use Rattle.vx_sql.specs.Dialects.{has_floats, has_type, makes_structs}
 use Rattle.vx_sql.specs.Quotes.{is_escaped}
 use Rattle.vx_sql.specs.Words.{is_misread}
-use Rattle.vx_sql.specs.Zeros.{mixes_zeros, mixes_zeros_between}
+use Rattle.vx_sql.specs.Lists.{item_type, items_in, has_items, no_zeros, literal_first}
+use Rattle.vx_sql.specs.Zeros.{is_float, no_zero_at, mixes_zeros, mixes_zeros_between}
 
 -- the reason where the test holds
 abbrev pub because : Bool → Reason → Option Reason
@@ -113,6 +116,40 @@ operation_reason d t (computes a) bs = because (not (has_arithmetic d a t)) Unkn
 abbrev pub range_reason : BoundTrees → Option Reason
 range_reason bs = because (mixes_zeros_between bs) FloatOrder
 
+-- whether the engine's IN is never null: in ClickHouse it is 0 of a null, and so it is among values of which one is
+abbrev pub is_in_plain : Dialect → Bool
+is_in_plain Postgres = false
+is_in_plain Sqlite = false
+is_in_plain DuckDb = false
+is_in_plain Spark = false
+is_in_plain ClickHouse = true
+
+-- whether it would lose a null of the second child, or of one of the elements
+abbrev pub loses_in : Dialect → Data → BoundTrees → Bool
+loses_in d vs bs = is_in_plain d && (admits_null_at bs 1 || has_null vs)
+
+-- whether the second child may be -0 where an element is 0, or 0 where one is -0
+abbrev pub mixes_zeros_in : LogicalType → Data → BoundTrees → Bool
+mixes_zeros_in t vs bs = is_float t && not (no_zero_at bs 1 || no_zeros vs)
+
+-- the first reason of one of these literals
+abbrev pub items_reason : LogicalType → Data → Option Reason
+items_reason t no_datum = None
+items_reason t (datum v vs) = option_or (literal_reason t v) (items_reason t vs)
+
+-- there is no IN of no values
+abbrev pub list_reason : Dialect → LogicalType → Data → BoundTrees → Option Reason
+list_reason d t vs bs =
+    if has_items vs && not (loses_in d vs bs) then option_or (because (mixes_zeros_in t vs bs) FloatOrder) (items_reason t vs) else Some UnknownFunction
+
+-- a value is looked up in a literal list
+abbrev pub literal_list_reason : Dialect → Option Constant → BoundTrees → Option Reason
+literal_list_reason d None bs = Some UnknownFunction
+literal_list_reason d (Some c) bs = list_reason d (item_type c.type) (items_in c.value) bs
+
+abbrev pub membership_reason : Dialect → BoundTrees → Option Reason
+membership_reason d bs = literal_list_reason d (literal_first bs) bs
+
 abbrev pub function_reason : Dialect → LogicalType → Function → BoundTrees → Option Reason
 function_reason d t (get_item a) bs = name_reason d (names_first bs) a
 function_reason d t (literal u v) bs = literal_reason u v
@@ -131,7 +168,7 @@ function_reason d t mask bs = None
 function_reason d t (cast u) bs = None
 function_reason d t starts_with bs = pattern_reason bs
 function_reason d t byte_length bs = None
-function_reason d t list_contains bs = Some UnknownFunction
+function_reason d t list_contains bs = membership_reason d bs
 
 -- why values of the type have no text: the engine orders floating-point numbers otherwise, or has no such values
 abbrev pub type_reason : Dialect → LogicalType → Option Reason

@@ -1,9 +1,9 @@
 -- The SQL text of a bound tree over the columns of its scope.
 use Rattle.std.specs.Prelude.{ℕ, Bool, true, false, ◌&&◌, ◌||◌, ◌==◌, List, [], ◌∷◌, ◌++◌, codes, get_or, if◌then◌else◌, Option, Some, None}
 use Rattle.vx_value.specs.Columns.{Constant}
-use Rattle.vx_value.specs.Types.{Name, number, LogicalType, ty, atomic, Datum, utf8}
+use Rattle.vx_value.specs.Types.{Name, number, LogicalType, ty, atomic, Datum, utf8, Data}
 use Rattle.vx_floats.specs.declared.arithmetic.Arithmetic.{Arithmetic}
-use Rattle.vx_fn.specs.Functions.{equal, not_equal, greater, greater_or_equal, less, less_or_equal, Comparison, Operation, compares, and_also, or_else, computes, Function, case_when, get_item, literal, pack, select, fill_null, zip, binary, logical_not, between, like, is_null, is_not_null, mask, cast, starts_with, byte_length, list_contains, arity_of}
+use Rattle.vx_fn.specs.Functions.{equal, not_equal, greater, greater_or_equal, less, less_or_equal, Comparison, Operation, compares, and_also, or_else, computes, Function, case_when, get_item, literal, pack, select, fill_null, zip, binary, logical_not, between, like, is_null, is_not_null, mask, cast, starts_with, byte_length, list_contains, arity_of, is_text}
 use Rattle.vx_fn.specs.Texts.{with_commas, pairs_sql, operator_sql, bound_text}
 use Rattle.vx_tree.specs.Nodes.{bound_at, bound_count_of}
 use Rattle.vx_tree.specs.Trees.{BoundTree, scope, node, BoundTrees, no_bound, bound}
@@ -16,7 +16,8 @@ use Rattle.vx_sql.specs.Children.{is_row, has_text_first, has_string_first, has_
 use Rattle.vx_sql.specs.Dialects.{collation}
 use Rattle.vx_sql.specs.Quotes.{name_sql, text_sql}
 use Rattle.vx_sql.specs.Patterns.{has_globs, pattern_sql, beginning_sql}
-use Rattle.vx_sql.specs.Literals.{literal_sql, null_sql}
+use Rattle.vx_sql.specs.Literals.{literal_sql, null_sql, items_sql}
+use Rattle.vx_sql.specs.Lists.{item_type, items_in, literal_first}
 use Rattle.vx_sql.specs.Calculations.{arithmetic_sql}
 
 -- ---- operators
@@ -218,6 +219,17 @@ behind_length ClickHouse = codes "))"
 abbrev pub length_sql : Dialect → List ℕ → List ℕ
 length_sql d c = before_length d ++ (c ++ behind_length d)
 
+-- ---- lists
+
+-- a text among values of that type
+abbrev pub in_sql : Dialect → LogicalType → Data → List ℕ → List ℕ
+in_sql d t vs x = codes "(" ++ (compared_sql d (is_text t) x ++ (codes " IN (" ++ (with_commas (items_sql d vs t) ++ codes "))")))
+
+-- a text among the elements of the literal list that is the first child
+abbrev pub membership_sql : Dialect → Option Constant → List ℕ → List ℕ
+membership_sql d None x = []
+membership_sql d (Some c) x = in_sql d (item_type c.type) (items_in c.value) x
+
 -- ---- choices
 
 -- the value where the condition is true, and what follows
@@ -282,7 +294,7 @@ own_sql d t mask bs cs = choice_sql (get_or cs 1 []) (get_or cs 0 []) (codes " E
 own_sql d t (cast u) bs cs = get_or cs 0 []
 own_sql d t starts_with bs cs = match_sql d false false (get_or cs 0 []) (second_beginning d bs)
 own_sql d t byte_length bs cs = length_sql d (get_or cs 0 [])
-own_sql d t list_contains bs cs = []
+own_sql d t list_contains bs cs = membership_sql d (literal_first bs) (get_or cs 1 [])
 
 -- the text of a node; over another number of children it has none
 abbrev pub node_sql : Dialect → LogicalType → Function → BoundTrees → List (List ℕ) → List ℕ
