@@ -3,7 +3,7 @@ ghost use Rattle.std.specs.Prelude.{◌≡◌, option_map};
 ghost use Rattle.vx_value.specs.Views.{type_of, value_of, data_view};
 ghost use Rattle.vx_fn.specs.Values as values;
 ghost use Rattle.vx_tree.specs.Views.{bounds_of};
-ghost use Rattle.vx_sql.specs.Lists.{item_type, items_in, no_zeros, literal_first};
+ghost use Rattle.vx_sql.specs.Lists.{item_type, items_in, has_items, no_zeros, literal_first};
 ghost use Rattle.vx_sql.specs.Reasons.{is_in_plain, loses_in, mixes_zeros_in, items_reason, list_reason, membership_reason};
 
 use crate::Dialect;
@@ -68,13 +68,19 @@ fn list_reason(
 ) -> Option<Reason>
     ensures { result ≡ list_reason dialect (type_of dtype.now) (data_view items.now) (bounds_of children.now) }
 {
-    if items.is_empty() || loses_in(dialect, items, children) {
+    if !has_items(items) || loses_in(dialect, items, children) {
         return Some(Reason::UnknownFunction);
     }
     if mixes_zeros_in(dtype, items, children) {
         return Some(Reason::FloatOrder);
     }
     items_reason(dtype, items)
+}
+
+fn has_items(items: &[Value]) -> bool
+    ensures { result ≡ has_items (data_view items.now) }
+{
+    !items.is_empty()
 }
 
 // Whether the engine's IN would lose a null of the second child, or of one of the elements.
