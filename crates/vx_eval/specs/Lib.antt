@@ -8,3 +8,4 @@ pub mod Items
 pub mod Across
 pub mod Numbers
 pub mod Leaves
+pub mod Elements
