@@ -6,8 +6,7 @@ use Rattle.vx_value.specs.declared.value.Value.{Value}
 use Rattle.vx_value.specs.Types.{Data}
 use Rattle.vx_value.specs.Equality.{equal_datum}
 use Rattle.vx_value.specs.Views.{value_of}
-use Rattle.vx_fn.specs.Values.{has_element, has_null}
-use Rattle.vx_eval.specs.declared.membership.elements.ElementSet.{ElementSet}
+use Rattle.vx_fn.specs.Values.{has_element}
 
 -- whether two values that are lent are the same
 abbrev pub same_lent : Bor Value → Bor Value → Bool
@@ -16,7 +15,3 @@ same_lent a b = equal_datum (value_of a.now) (value_of b.now)
 -- the set has a value exactly if it is one of the elements
 abbrev pub HasElements : {S : Type 0} → HashSet (Bor Value) S → Data → Type 0
 HasElements set ws = (q : Bor Value) → contains same_lent set q ≡ has_element ws (value_of q.now)
-
--- these are the elements of which the set was made
-abbrev pub HoldsElements : ElementSet → Data → Type 0
-HoldsElements e ws = HasElements e.set ws × (e.has_null ≡ has_null ws)
