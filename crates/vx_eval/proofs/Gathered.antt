@@ -1,12 +1,13 @@
 -- A set of elements, made from the first element on.
 use Rattle.std.proofs.Common.{◌≡◌, ℕ, ◌+◌, ◌<◌, ◌≤◌, List, [], ◌∷◌, length, Result, subst, get_or, drop, drop-cons, drop_of_length-le, add-one, cond, refl, sym, ap, ◌∙◌, ◌||◌, Bool, true, false, arith}
 use Rattle.std.specs.Borrow.{Bor}
-use Rattle.std.specs.HashSet.{HashSet, contains, Updates}
+use Rattle.std.specs.HashSet.{HashSet, contains}
 use Rattle.std.proofs.Math.ListN.{replicate}
 use Rattle.std.proofs.lemmas.List.{get_or-replicate, length-replicate}
 use Rattle.vx_dtype.specs.declared.error.VortexError.{VortexError}
 use Rattle.vx_value.specs.declared.value.Value.{Value}
 use Rattle.vx_value.specs.Types.{LogicalType, Datum, null}
+use Rattle.vx_value.specs.Equality.{equal_datum}
 use Rattle.vx_value.specs.Views.{value_of, data_view}
 use Rattle.vx_fn.specs.Values as values
 use Rattle.vx_fn.specs.Functions.{Function}
@@ -29,13 +30,13 @@ module _ {S : Type 0} where
   abbrev pub HasFirst : ℕ → HashSet (Bor Value) S → List Value → Type 0
   HasFirst i set items = (q : Bor Value) → (contains same_lent set q || values.has_element (data_view (drop i items)) (value_of q.now)) ≡ values.has_element (data_view items) (value_of q.now)
 
-  pub one_more : (i : ℕ) (old new : HashSet (Bor Value) S) (items : List Value) (k : Bor Value) → i < length items → k.now ≡ get_or items i k.now
-      → Updates same_lent old new k true → HasFirst i old items → HasFirst (i + 1) new items
-  one_more i old new items k lt at put had q =
+  pub one_more : (i : ℕ) (old new : HashSet (Bor Value) S) (items : List Value) (x : Value) → i < length items → x ≡ get_or items i x
+      → ((q : Bor Value) → contains same_lent new q ≡ cond (equal_datum (value_of x) (value_of q.now)) true (contains same_lent old q)) → HasFirst i old items → HasFirst (i + 1) new items
+  one_more i old new items x lt at put had q =
       let rest = values.has_element (data_view (drop (i + 1) items)) (value_of q.now) in
-      let left : drop i items ≡ k.now ∷ drop (i + 1) items = rw (drop-cons items i k.now lt, ← at, add-one) in
-      let told : values.has_element (data_view (drop i items)) (value_of q.now) ≡ (same_lent k q || rest) = ap (λ l. values.has_element (data_view l) (value_of q.now)) left in
-      ap (λ b. b || rest) (put.0 q) ∙ turned (same_lent k q) (contains same_lent old q) rest ∙ ap (λ b. contains same_lent old q || b) (sym told) ∙ had q
+      let left : drop i items ≡ x ∷ drop (i + 1) items = rw (drop-cons items i x lt, ← at, add-one) in
+      let told : values.has_element (data_view (drop i items)) (value_of q.now) ≡ (equal_datum (value_of x) (value_of q.now) || rest) = ap (λ l. values.has_element (data_view l) (value_of q.now)) left in
+      ap (λ b. b || rest) (put q) ∙ turned (equal_datum (value_of x) (value_of q.now)) (contains same_lent old q) rest ∙ ap (λ b. contains same_lent old q || b) (sym told) ∙ had q
 
   pub all_in : (i : ℕ) (set : HashSet (Bor Value) S) (items : List Value) → length items ≤ i → HasFirst i set items → HasElements set (data_view items)
   all_in i set items all had q =
