@@ -1,5 +1,5 @@
 -- A set of elements, made from the first element on.
-use Rattle.std.proofs.Common.{◌≡◌, ℕ, ◌+◌, ◌<◌, ◌≤◌, List, [], ◌∷◌, length, Result, subst, get_or, drop, drop-cons, drop_of_length-le, add-one, cond, refl, sym, ap, ◌∙◌, ◌||◌, Bool, true, false, arith}
+use Rattle.std.proofs.Common.{◌≡◌, ℕ, ◌+◌, ◌<◌, ◌≤◌, List, [], ◌∷◌, length, Result, subst, get_or, drop, drop-cons, drop_of_length-le, add-one, cond, refl, sym, ap, ◌∙◌, ◌||◌, Bool, true, false}
 use Rattle.std.specs.Borrow.{Bor}
 use Rattle.std.specs.HashSet.{HashSet, contains}
 use Rattle.std.proofs.Math.ListN.{replicate}
