@@ -112,6 +112,12 @@ class Pruning(unittest.TestCase):
             with self.assertRaises(vx.DataError):
                 vx.prune("x > 5", chunks, X)
 
+    def test_statistics_that_cannot_be(self):
+        for known, wanted in (({"nulls": 4}, "fields.x.nulls"), ({"least": 2, "greatest": 1}, "fields.x.greatest")):
+            with self.assertRaises(vx.DataError) as caught:
+                vx.prune("x > 5", [vx.statistics(3), vx.statistics(3, x=known)], X)
+            self.assertIn(f"line 2, at {wanted}", str(caught.exception))
+
 
 class Errors(unittest.TestCase):
     def test_places(self):

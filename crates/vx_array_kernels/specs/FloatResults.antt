@@ -10,12 +10,14 @@ use Rattle.vx_floats.specs.declared.float.Float.TheVariants as bits
 use Rattle.vx_floats.specs.Floats.{ieee_result}
 use Rattle.vx_array_loops.specs.WordBits.{each_row}
 use Rattle.vx_array_loops.specs.declared.computation.Computation.{Computation}
+use Rattle.vx_array_loops.specs.declared.computation.Computation.TheVariants.{Remainder}
 use Rattle.vx_array.specs.declared.floats.Floats.{Floats}
 use Rattle.vx_array.specs.Kinds.{bits_in, format_in}
 use Rattle.vx_array_kernels.specs.Asked.{arithmetic_of}
 
--- what IEEE 754 computes of two numbers of a format with these bits, as bits; zero of a remainder, which isn't computed
+-- what IEEE 754 computes of two numbers of a format with these bits, as bits; zero of a remainder, which isn't computed by bits
 abbrev pub bits_result : Computation → Format → ℕ → ℕ → ℕ
+bits_result Remainder f a b = 0
 bits_result c f a b = unwrap_or (option_map (to_bits f) (ieee_result (arithmetic_of c) f (from_bits f a) (from_bits f b))) 0
 
 -- the binary format

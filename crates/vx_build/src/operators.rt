@@ -115,7 +115,7 @@ pub fn checked_div<T: TreeNode>(alloc: Global, lhs: T, rhs: T) -> VortexResult<T
 
 /// The remainder of the left operand by the right one, with the left one's sign. Over sources it
 /// refuses with `OutOfMemory` (1) alone, over bound trees as the node does: `NotNumeric` (9), also
-/// of decimals and floats, `BaseTypesDiffer` (6).
+/// of decimals, `BaseTypesDiffer` (6).
 pub fn checked_rem<T: TreeNode>(alloc: Global, lhs: T, rhs: T) -> VortexResult<T>
     ensures { T.gives (binary (computes Remainder)) (lhs ∷ rhs ∷ []) result }
 {

@@ -1,5 +1,5 @@
 -- 17 digits tell numbers of 53 binary digits apart: the number lies nearest to the units that lie nearest to it.
-use Rattle.std.proofs.Common.{◌≡◌, ℕ, suc, ◌+◌, ◌-◌, ◌*◌, ◌/◌, ◌^◌, ◌<◌, ◌≤◌, true, min, inl, inr, refl, ap, subst, ◌∙◌, arith, pow_pos, eq-zero-or-pos}
+use Rattle.std.proofs.Common.{◌≡◌, ℕ, suc, ◌+◌, ◌-◌, ◌*◌, ◌/◌, ◌^◌, ◌<◌, ◌≤◌, true, min, inl, inr, ap, subst, ◌∙◌, arith, pow_pos, eq-zero-or-pos}
 use Rattle.std.proofs.Math.Nat.{div-mul-le_self, lt-div-mul-add, mul-le-mul_left, mul-le-mul_right, pow-le-pow_right, pow-suc}
 use lib.Ieee.{Format, prec, low, hid, ones}
 use Rattle.fast_float.specs.Rounding.{scaled_bits, IsNearestBits, IsSignificand}
@@ -8,12 +8,12 @@ use Rattle.fast_float.proofs.Patterns.{shape}
 use Rattle.fast_float.proofs.RoundingLemmas.{nearest_of_near}
 use Rattle.ryu.proofs.Signs.{signed}
 use Rattle.vx_floats.specs.declared.float.Float.{Float}
-use Rattle.vx_floats.specs.declared.float.Float.TheVariants.{F32, F64}
 use Rattle.vx_floats.specs.declared.parts.Fraction.{Fraction}
 use Rattle.vx_floats.specs.Deciding.{same_float-Decides}
-use Rattle.vx_floats.specs.Floats.{canonical, format_of, same_float}
+use Rattle.vx_floats.specs.Floats.{format_of, same_float}
 use Rattle.vx_floats.specs.Parts.{IsFractionOf, den_of, num_of}
 use Rattle.vx_floats.specs.Texts.{binary, nearest, number_of, units_of, value_of}
+use Rattle.vx_floats.proofs.Fields.{number_is}
 
 -- n is a / l to the nearest whole number: twice both lie within l
 near : (a l n : ℕ) → 0 < l → n ≡ (2 * a + l) / (2 * l) → (2 * (n * l) ≤ 2 * a + l) × (2 * a < 2 * (n * l) + l)
@@ -81,10 +81,6 @@ module _ (f : Format) (q k n d : ℕ) (significand : IsSignificand f q k) (some 
   ]
 
 -- ---- numbers
-
-number_is : (x : Float) → number_of (format_of x) (value_of x) ≡ canonical x
-number_is (F32 b) = refl
-number_is (F64 b) = refl
 
 -- the number lies nearest to so many units
 pub enough : (x : Float) (r : Fraction) (scale : ℕ) → IsFractionOf x r → 10 ^ 17 ≤ units_of (num_of r) (den_of r) scale

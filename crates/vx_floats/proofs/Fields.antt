@@ -12,11 +12,15 @@ use Rattle.vx_floats.specs.declared.float.Float.{Float}
 use Rattle.vx_floats.specs.declared.float.Float.TheVariants.{F32, F64}
 use Rattle.vx_floats.specs.Floats.{canonical, format_of}
 use Rattle.vx_floats.specs.Parts.{IsFractionOf}
-use Rattle.vx_floats.specs.Texts.{binary, bits_of, value_of}
+use Rattle.vx_floats.specs.Texts.{binary, bits_of, number_of, value_of}
 
 pub value_is : (x : Float) → value_of x ≡ of_bits (binary (format_of x)) (bits_of x)
 value_is (F32 b) = refl
 value_is (F64 b) = refl
+
+pub number_is : (x : Float) → number_of (format_of x) (value_of x) ≡ canonical x
+number_is (F32 b) = refl
+number_is (F64 b) = refl
 
 -- ---- the value of each kind of pattern
 

@@ -23,6 +23,7 @@ use Rattle.vx_floats.specs.declared.float.Float.TheVariants.{F32, F64}
 use Rattle.vx_floats.specs.Deciding.{same_float-Decides}
 use Rattle.vx_floats.specs.Floats.{canonical, format_of, is_canonical}
 use Rattle.vx_floats.specs.Texts.{binary, bits_read, bits_text, float_read, float_text, fraction_text, is_too_large, number_of, scale_of, units_of, value_of, value_read, value_text}
+use Rattle.vx_floats.proofs.Fields.{number_is}
 use Rattle.vx_floats.proofs.Scales.{scale_is}
 use Rattle.vx_floats.proofs.DecimalTexts.{decimal_read_as, low_text, no_mark}
 
@@ -106,10 +107,6 @@ bits_again (F64 b) same =
     ∙ ap (λ n. Some (canonical (F64 n))) (from_be_bytes-to_be_bytes_8 b (canonical_bits binary64 b bits)) ∙ ap Some same
 
 -- ---- all of them
-
-number_is : (x : Float) → number_of (format_of x) (value_of x) ≡ canonical x
-number_is (F32 b) = refl
-number_is (F64 b) = refl
 
 again : (x : Float) (v : Value) → value_of x ≡ v → canonical x ≡ x → float_read (format_of x) (unwrap_or (value_text x v) (bits_text x)) ≡ Some x
 again x nan value same = nan_again (format_of x) ∙ ap Some (ap (number_of (format_of x)) (sym value) ∙ number_is x ∙ same)

@@ -8,5 +8,6 @@ mod Octets
 mod Shown
 mod Scales
 mod DecimalTexts
+mod Remainders
 pub mod FloatsAgain
 pub mod TextsAscii

@@ -4,7 +4,7 @@ use Rattle.std.specs.Prelude.{IsTrue, IfSome, Option, Some, None, from_bits, to_
 use Rattle.std.specs.Float.{binary32, binary64}
 use Rattle.std.specs.Option.{option_map}
 use lib.Ieee.Bits.{of_bits-to_bits, of_bits-fits}
-use lib.Ieee.Fits.{add-fits, sub-fits, mul-fits, div-fits}
+use lib.Ieee.Fits.{add-fits, sub-fits, mul-fits, div-fits, rem-fits}
 use lib.Ieee.{Format, fits}
 use lib.Ieee as Ieee
 use lib.Dec.{T}
@@ -24,13 +24,13 @@ pub canonical_once : (x : Float) → IsTrue (is_canonical (canonical x))
 canonical_once (F32 b) = same_bits _ _ (ap (to_bits binary32) (of_bits-to_bits binary32 _ (of_bits-fits binary32 b)))
 canonical_once (F64 b) = same_bits _ _ (ap (to_bits binary64) (of_bits-to_bits binary64 _ (of_bits-fits binary64 b)))
 
--- the format holds each result
-ieee_result-fits : (a : Arithmetic) (f : Format) (x y : Ieee.Float) → IfSome (ieee_result a f x y) (λ z. T (fits f z))
-ieee_result-fits Sum f x y = add-fits f x y
-ieee_result-fits Difference f x y = sub-fits f x y
-ieee_result-fits Product f x y = mul-fits f x y
-ieee_result-fits Quotient f x y = div-fits f x y
-ieee_result-fits Remainder f x y = tt
+-- the format holds each result of a number that it holds
+ieee_result-fits : (a : Arithmetic) (f : Format) (x y : Ieee.Float) → T (fits f x) → IfSome (ieee_result a f x y) (λ z. T (fits f z))
+ieee_result-fits Sum f x y h = add-fits f x y
+ieee_result-fits Difference f x y h = sub-fits f x y
+ieee_result-fits Product f x y h = mul-fits f x y
+ieee_result-fits Quotient f x y h = div-fits f x y
+ieee_result-fits Remainder f x y h = rem-fits f x y h
 
 canonical_32 : (r : Option Ieee.Float) → IfSome r (λ z. T (fits binary32 z)) → IfSome (option_map (λ z. F32 (to_bits binary32 z)) r) (λ z. IsTrue (is_canonical z))
 canonical_32 None h = tt
@@ -42,7 +42,7 @@ canonical_64 (Some z) h = same_bits _ _ (ap (to_bits binary64) (of_bits-to_bits 
 
 -- a result is canonical
 pub result_canonical : (a : Arithmetic) (x y : Float) → IfSome (float_result a x y) (λ z. IsTrue (is_canonical z))
-result_canonical a (F32 x) (F32 y) = canonical_32 _ (ieee_result-fits a binary32 (from_bits binary32 x) (from_bits binary32 y))
-result_canonical a (F64 x) (F64 y) = canonical_64 _ (ieee_result-fits a binary64 (from_bits binary64 x) (from_bits binary64 y))
+result_canonical a (F32 x) (F32 y) = canonical_32 _ (ieee_result-fits a binary32 (from_bits binary32 x) (from_bits binary32 y) (of_bits-fits binary32 x))
+result_canonical a (F64 x) (F64 y) = canonical_64 _ (ieee_result-fits a binary64 (from_bits binary64 x) (from_bits binary64 y) (of_bits-fits binary64 x))
 result_canonical a (F32 x) (F64 y) = tt
 result_canonical a (F64 x) (F32 y) = tt

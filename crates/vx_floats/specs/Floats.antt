@@ -2,7 +2,7 @@
 use Rattle.std.specs.Prelude.{ℕ, ◌+◌, ◌-◌, ◌==◌, ◌++◌, Bool, false, Option, Some, None, from_bits, to_bits, nat_lt, if◌then◌else◌}
 use Rattle.std.specs.Float.{Format, binary32, binary64}
 use Rattle.std.specs.Float as ieee
-use Rattle.std.specs.Float.Ieee.{add, sub, mul, div}
+use Rattle.std.specs.Float.Ieee.{add, sub, mul, div, rem}
 use Rattle.std.specs.Option.{option_map}
 use Rattle.std.specs.Hash.{HashWrites}
 use Rattle.std.specs.Hash as fed
@@ -47,13 +47,13 @@ float_order (F64 a) (F64 b) = nat_cmp (total_key 0x8000_0000_0000_0000 a) (total
 float_order (F32 a) (F64 b) = Less
 float_order (F64 a) (F32 b) = Greater
 
--- the arithmetic on numbers of a format: IEEE 754's, to nearest and to even at a tie; the remainder isn't computed
+-- the arithmetic on numbers of a format: IEEE 754's, to nearest and to even at a tie, and C's fmod, which is exact
 abbrev pub ieee_result : Arithmetic → Format → ieee.Float → ieee.Float → Option ieee.Float
 ieee_result Sum f x y = Some (add f x y)
 ieee_result Difference f x y = Some (sub f x y)
 ieee_result Product f x y = Some (mul f x y)
 ieee_result Quotient f x y = Some (div f x y)
-ieee_result Remainder f x y = None
+ieee_result Remainder f x y = Some (rem f x y)
 
 -- the same on two numbers of one format, by their bits; each NaN is the quiet one
 abbrev pub float_result : Arithmetic → Float → Float → Option Float

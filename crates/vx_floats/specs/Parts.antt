@@ -1,10 +1,13 @@
 -- The parts of a floating-point number.
-use Rattle.std.specs.Prelude.{◌≡◌, ℕ, ◌*◌, ◌^◌}
+use Rattle.std.specs.Prelude.{◌≡◌, ℕ, ◌+◌, ◌*◌, ◌^◌, Bool, if◌then◌else◌}
+use Rattle.std.specs.Float.{binary32, binary64}
 use Rattle.std.specs.Float.Ieee.{hid, low, ones, top, nan, inf}
 use lib.Ieee.Exact.{HasValue}
 use Rattle.fast_float.specs.Rounding.{scaled_bits, IsSignificand}
 use Rattle.ryu.specs.Sign.{IsSignAndSize}
+use Rattle.vx_dtype.specs.declared.float_type.FloatType.{FloatType}
 use Rattle.vx_floats.specs.declared.float.Float.{Float}
+use Rattle.vx_floats.specs.declared.float.Float.TheVariants.{F32, F64}
 use Rattle.vx_floats.specs.declared.parts.Fraction.{Fraction}
 use Rattle.vx_floats.specs.declared.parts.Parts.{Parts}
 use Rattle.vx_floats.specs.declared.parts.Pattern.{Pattern}
@@ -17,6 +20,11 @@ abbrev pub pattern_of : Float → Pattern
 pattern_of x =
     let f = binary (format_of x) in
     record { bits = bits_of x; sign = top f; hidden = hid f; ones = ones f; lowest = low f }
+
+-- the number with that sign whose other bits are these
+abbrev pub with_sign : FloatType → Bool → ℕ → Float
+with_sign FloatType.F32 negative size = F32 ((if negative then top binary32 else 0) + size)
+with_sign FloatType.F64 negative size = F64 ((if negative then top binary64 else 0) + size)
 
 -- the size of a number, which is num / den
 abbrev pub num_of : Fraction → ℕ

@@ -7,6 +7,7 @@ mod float;
 pub mod laws;
 mod parts;
 mod reading;
+mod remainder;
 mod texts;
 
 pub use arithmetic::Arithmetic;

@@ -226,7 +226,7 @@ fn_type-mono (of_zip s) (forall2_cons p (forall2_cons q (forall2_cons (narrower 
 fn_type-mono (of_comparison s) (forall2_cons (narrower same_atomic_shape i) (forall2_cons (narrower same_atomic_shape j) forall2_nil)) = (_, of_comparison s, narrower same_atomic_shape (or_mono _ _ _ _ i j))
 fn_type-mono of_and (forall2_cons (narrower same_atomic_shape i) (forall2_cons (narrower same_atomic_shape j) forall2_nil)) = (_, of_and, narrower same_atomic_shape (or_mono _ _ _ _ i j))
 fn_type-mono of_or (forall2_cons (narrower same_atomic_shape i) (forall2_cons (narrower same_atomic_shape j) forall2_nil)) = (_, of_or, narrower same_atomic_shape (or_mono _ _ _ _ i j))
-fn_type-mono (of_float_arithmetic k s) (forall2_cons (narrower same_atomic_shape i) (forall2_cons (narrower same_atomic_shape j) forall2_nil)) = (_, of_float_arithmetic k s, narrower same_atomic_shape (or_mono _ _ _ _ i j))
+fn_type-mono (of_float_arithmetic s) (forall2_cons (narrower same_atomic_shape i) (forall2_cons (narrower same_atomic_shape j) forall2_nil)) = (_, of_float_arithmetic s, narrower same_atomic_shape (or_mono _ _ _ _ i j))
 fn_type-mono (of_decimal_arithmetic k s) (forall2_cons (narrower same_atomic_shape i) (forall2_cons (narrower same_atomic_shape j) forall2_nil)) = (_, of_decimal_arithmetic k s, narrower same_atomic_shape (or_mono _ _ _ _ i j))
 fn_type-mono (of_arithmetic s) (forall2_cons (narrower same_atomic_shape i) (forall2_cons (narrower same_atomic_shape j) forall2_nil)) = (_, of_arithmetic s, narrower same_atomic_shape (or_mono _ _ _ _ i j))
 fn_type-mono of_not (forall2_cons (narrower same_atomic_shape i) forall2_nil) = (_, of_not, narrower same_atomic_shape i)

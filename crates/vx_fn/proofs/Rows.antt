@@ -126,7 +126,7 @@ row_computes c t a b e =
   where
     go : (a b : LogicalType) → is_number_for c a ≡ true → is_number_for c b ≡ true → same_base a b ≡ true → ok_ty (with_nullability (is_nullable a || is_nullable b) a) ≡ Ok t → FnType (binary (computes c)) (a ∷ b ∷ []) t
     go (ty (atomic (number p)) n) (ty (atomic (number q)) m) h k s r = ok_at (binary (computes c)) _ (of_arithmetic s) r
-    go (ty (atomic (floating f)) n) (ty (atomic (floating g)) m) h k s r = ok_at (binary (computes c)) _ (of_float_arithmetic h s) r
+    go (ty (atomic (floating f)) n) (ty (atomic (floating g)) m) h k s r = ok_at (binary (computes c)) _ (of_float_arithmetic s) r
     go (ty (atomic (decimals p x)) n) (ty (atomic (decimals q y)) m) h k s r = ok_at (binary (computes c)) _ (of_decimal_arithmetic h s) r
     go _ _ h k s r = cc
 
@@ -241,7 +241,7 @@ fn_type-only (of_comparison e) = rw e
 fn_type-only of_and = refl
 fn_type-only of_or = refl
 fn_type-only (of_arithmetic e) = rw e
-fn_type-only (of_float_arithmetic k e) = rw (k, e)
+fn_type-only (of_float_arithmetic e) = rw e
 fn_type-only (of_decimal_arithmetic k e) = rw (k, e)
 fn_type-only of_not = refl
 fn_type-only (of_between a b) = rw (a, b)

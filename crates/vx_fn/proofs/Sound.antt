@@ -1,6 +1,6 @@
 -- A well-typed tree gives a value of its type at each row of a batch on which it doesn't fault.
 use Rattle.std.proofs.Common.{IsTrue, ◌&&◌, ◌≡◌, ℕ, zero, suc, inl, inr, ◌+◌, ◌*◌, List, [], ◌∷◌, length, refl, sym, subst, Bool, true, false, ◌||◌, arith, ◌⊎◌}
-use Rattle.std.specs.Prelude.{Some, None, not, if◌then◌else◌, nat_lt, min, ◌^◌, ◌-◌}
+use Rattle.std.specs.Prelude.{Some, None, if◌then◌else◌, nat_lt, min, ◌^◌, ◌-◌}
 use Rattle.std.proofs.lemmas.Bool.Decides.{nat_tests}
 use Rattle.std.proofs.lemmas.Bool.{eqb-true, not-false, and_parts, or_cases, or_left, or_right, or_parts}
 use Rattle.vx_value.proofs.Fitting.{fits-not_null, fits-wider, fits-nullable, join-fits-left, join-fits-right, Into, into_none, into_more, union_all-into, field_value-fits, project-fits, pack-fits}
@@ -10,7 +10,7 @@ use Rattle.vx_floats.specs.Floats.{format_of, is_canonical}
 use Rattle.vx_floats.specs.declared.float.Float.{Float}
 use Rattle.vx_floats.proofs.Once.{result_canonical}
 use Rattle.vx_floats.specs.declared.arithmetic.Arithmetic.{Arithmetic}
-use Rattle.vx_floats.specs.declared.arithmetic.Arithmetic.TheVariants.{Sum, Difference, Product, Quotient}
+use Rattle.vx_floats.specs.declared.arithmetic.Arithmetic.TheVariants.{Sum, Difference, Product, Quotient, Remainder}
 use Rattle.vx_dtype.specs.declared.float_type.FloatType.{FloatType}
 use Rattle.vx_value.specs.Types.{Name, same_float_type, Atomic, truth, number, floating, decimals, text, LogicalType, ty, Shape, atomic, list, struct, Fields, Datum, null, bool, int, float, utf8, list_of, struct_of, Data, no_datum, datum, is_nullable, with_nullability, is_null_datum}
 use Rattle.vx_value.specs.Fits.{fits, each_fits, Fits, EachFits}
@@ -19,7 +19,7 @@ use Rattle.vx_value.specs.Joins.{same_base, join}
 use Rattle.vx_value.specs.Fields.{field_type, field_value, project, first_unknown, field_names}
 use Rattle.vx_dtype.specs.declared.dtype.PType.{PType}
 use Rattle.vx_dtype.specs.declared.dtype.PType.TheVariants.{I64}
-use Rattle.vx_fn.specs.Functions.{Function, get_item, select, fill_null, binary, cast, computes, is_remainder, Comparison, selection_names, included, branches, HasFittingLiteral}
+use Rattle.vx_fn.specs.Functions.{Function, get_item, select, fill_null, binary, cast, computes, Comparison, selection_names, included, branches, HasFittingLiteral}
 use Rattle.vx_fn.specs.declared.options.FieldSelection.{FieldSelection}
 use Rattle.vx_fn.specs.declared.options.FieldSelection.TheVariants.{Include, Exclude}
 use Rattle.vx_fn.specs.Rows.{FnType, of_case_else, of_case, of_get_item, of_literal, of_pack, of_select, of_fill_null, of_zip, of_comparison, of_and, of_or, of_arithmetic, of_float_arithmetic, of_decimal_arithmetic, of_not, of_between, of_like, of_is_null, of_is_not_null, of_mask, of_cast, of_starts_with, of_byte_length, of_list_contains}
@@ -132,22 +132,24 @@ whole-fits a p q (int i) null n m e h s = or_right n m h
 whole-fits a p q (int i) (int j) n m e h s = not-false _ (or_parts _ _ s).1
 whole-fits a p q _ _ n m e h s = cc
 
-float_result-of : (a : Arithmetic) (f g : FloatType) (x y : Float) (n : Bool) → IsTrue (not (is_remainder a)) → IsTrue (same_float_type f g) → IsTrue (same_float_type (format_of x) f && is_canonical x) → IsTrue (same_float_type (format_of y) g && is_canonical y) → Fits (computed a (float x) (float y)) (ty (atomic (floating f)) n)
-float_result-of Sum FloatType.F32 FloatType.F32 (Float.F32 x) (Float.F32 y) n k s e h = result_canonical Sum (Float.F32 x) (Float.F32 y)
-float_result-of Difference FloatType.F32 FloatType.F32 (Float.F32 x) (Float.F32 y) n k s e h = result_canonical Difference (Float.F32 x) (Float.F32 y)
-float_result-of Product FloatType.F32 FloatType.F32 (Float.F32 x) (Float.F32 y) n k s e h = result_canonical Product (Float.F32 x) (Float.F32 y)
-float_result-of Quotient FloatType.F32 FloatType.F32 (Float.F32 x) (Float.F32 y) n k s e h = result_canonical Quotient (Float.F32 x) (Float.F32 y)
-float_result-of Sum FloatType.F64 FloatType.F64 (Float.F64 x) (Float.F64 y) n k s e h = result_canonical Sum (Float.F64 x) (Float.F64 y)
-float_result-of Difference FloatType.F64 FloatType.F64 (Float.F64 x) (Float.F64 y) n k s e h = result_canonical Difference (Float.F64 x) (Float.F64 y)
-float_result-of Product FloatType.F64 FloatType.F64 (Float.F64 x) (Float.F64 y) n k s e h = result_canonical Product (Float.F64 x) (Float.F64 y)
-float_result-of Quotient FloatType.F64 FloatType.F64 (Float.F64 x) (Float.F64 y) n k s e h = result_canonical Quotient (Float.F64 x) (Float.F64 y)
-float_result-of _ _ _ _ _ n k s e h = cc
+float_result-of : (a : Arithmetic) (f g : FloatType) (x y : Float) (n : Bool) → IsTrue (same_float_type f g) → IsTrue (same_float_type (format_of x) f && is_canonical x) → IsTrue (same_float_type (format_of y) g && is_canonical y) → Fits (computed a (float x) (float y)) (ty (atomic (floating f)) n)
+float_result-of Sum FloatType.F32 FloatType.F32 (Float.F32 x) (Float.F32 y) n s e h = result_canonical Sum (Float.F32 x) (Float.F32 y)
+float_result-of Difference FloatType.F32 FloatType.F32 (Float.F32 x) (Float.F32 y) n s e h = result_canonical Difference (Float.F32 x) (Float.F32 y)
+float_result-of Product FloatType.F32 FloatType.F32 (Float.F32 x) (Float.F32 y) n s e h = result_canonical Product (Float.F32 x) (Float.F32 y)
+float_result-of Quotient FloatType.F32 FloatType.F32 (Float.F32 x) (Float.F32 y) n s e h = result_canonical Quotient (Float.F32 x) (Float.F32 y)
+float_result-of Remainder FloatType.F32 FloatType.F32 (Float.F32 x) (Float.F32 y) n s e h = result_canonical Remainder (Float.F32 x) (Float.F32 y)
+float_result-of Sum FloatType.F64 FloatType.F64 (Float.F64 x) (Float.F64 y) n s e h = result_canonical Sum (Float.F64 x) (Float.F64 y)
+float_result-of Difference FloatType.F64 FloatType.F64 (Float.F64 x) (Float.F64 y) n s e h = result_canonical Difference (Float.F64 x) (Float.F64 y)
+float_result-of Product FloatType.F64 FloatType.F64 (Float.F64 x) (Float.F64 y) n s e h = result_canonical Product (Float.F64 x) (Float.F64 y)
+float_result-of Quotient FloatType.F64 FloatType.F64 (Float.F64 x) (Float.F64 y) n s e h = result_canonical Quotient (Float.F64 x) (Float.F64 y)
+float_result-of Remainder FloatType.F64 FloatType.F64 (Float.F64 x) (Float.F64 y) n s e h = result_canonical Remainder (Float.F64 x) (Float.F64 y)
+float_result-of _ _ _ _ _ n s e h = cc
 
-float-fits : (a : Arithmetic) (f g : FloatType) (v w : Datum) (n m : Bool) → IsTrue (not (is_remainder a)) → IsTrue (same_float_type f g) → Fits v (ty (atomic (floating f)) n) → Fits w (ty (atomic (floating g)) m) → Fits (computed a v w) (ty (atomic (floating f)) (n || m))
-float-fits a f g null w n m k s e h = or_left n m e
-float-fits a f g (float x) null n m k s e h = or_right n m h
-float-fits a f g (float x) (float y) n m k s e h = float_result-of a f g x y (n || m) k s e h
-float-fits a f g _ _ n m k s e h = cc
+float-fits : (a : Arithmetic) (f g : FloatType) (v w : Datum) (n m : Bool) → IsTrue (same_float_type f g) → Fits v (ty (atomic (floating f)) n) → Fits w (ty (atomic (floating g)) m) → Fits (computed a v w) (ty (atomic (floating f)) (n || m))
+float-fits a f g null w n m s e h = or_left n m e
+float-fits a f g (float x) null n m s e h = or_right n m h
+float-fits a f g (float x) (float y) n m s e h = float_result-of a f g x y (n || m) s e h
+float-fits a f g _ _ n m s e h = cc
 
 decimal-fits : (a : Arithmetic) (p c q b : ℕ) (v w : Datum) (n m : Bool) → Fits v (ty (atomic (decimals p c)) n) → Fits w (ty (atomic (decimals q b)) m) → has_fault a (ty (atomic (decimals p c)) n ∷ ty (atomic (decimals q b)) m ∷ []) (v ∷ w ∷ []) ≡ false → Fits (computed a v w) (ty (atomic (decimals p c)) (n || m))
 decimal-fits a p c q b null w n m e h s = or_left n m e
@@ -255,7 +257,7 @@ fn_value-fits (of_zip {t = t} {u = u} s) lit safe (forall2_cons {x = v} e (foral
 fn_value-fits (of_comparison {c = c} {p = p} {q = q} {n = n} {m = m} s) lit safe (forall2_cons {x = v} e (forall2_cons {x = w} h forall2_nil)) = compared-fits c v w (atomic p) (atomic q) n m e h
 fn_value-fits (of_and {n = n} {m = m}) lit safe (forall2_cons {x = v} e (forall2_cons {x = w} h forall2_nil)) = and-fits v w n m e h
 fn_value-fits (of_or {n = n} {m = m}) lit safe (forall2_cons {x = v} e (forall2_cons {x = w} h forall2_nil)) = or-fits v w n m e h
-fn_value-fits (of_float_arithmetic {a = c} {f = f} {g = g} {n = n} {m = m} k s) lit safe (forall2_cons {x = v} e (forall2_cons {x = w} h forall2_nil)) = float-fits c f g v w n m k s e h
+fn_value-fits (of_float_arithmetic {a = c} {f = f} {g = g} {n = n} {m = m} s) lit safe (forall2_cons {x = v} e (forall2_cons {x = w} h forall2_nil)) = float-fits c f g v w n m s e h
 fn_value-fits (of_decimal_arithmetic {a = c} {p = p} {s = a} {q = q} {r = b} {n = n} {m = m} k s) lit safe (forall2_cons {x = v} e (forall2_cons {x = w} h forall2_nil)) = decimal-fits c p a q b v w n m e h safe
 fn_value-fits (of_arithmetic {a = c} {p = p} {q = q} {n = n} {m = m} s) lit safe (forall2_cons {x = v} e (forall2_cons {x = w} h forall2_nil)) = whole-fits c p q v w n m e h safe
 fn_value-fits (of_not {n = n}) lit safe (forall2_cons {x = v} e forall2_nil) = not-fits v n e

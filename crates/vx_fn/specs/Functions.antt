@@ -6,7 +6,7 @@ use Rattle.vx_dtype.specs.declared.dtype.PType.TheVariants.{I64}
 use Rattle.vx_dtype.specs.declared.error.VortexError.{VortexError}
 use Rattle.vx_dtype.specs.declared.error.VortexError.TheVariants.{ArityMismatch, NotAStruct, NoSuchField, BaseTypesDiffer, NotBool, NotComparable, NotNumeric, NotText, NoPairs}
 use Rattle.vx_floats.specs.declared.arithmetic.Arithmetic.{Arithmetic}
-use Rattle.vx_floats.specs.declared.arithmetic.Arithmetic.TheVariants.{Sum, Difference, Product, Remainder}
+use Rattle.vx_floats.specs.declared.arithmetic.Arithmetic.TheVariants.{Sum, Difference, Product}
 use Rattle.vx_fn.specs.declared.options.FieldSelection.{FieldSelection}
 use Rattle.vx_value.specs.Returns.{known_or}
 use Rattle.vx_value.specs.Types.{Name, truth, number, floating, decimals, text, LogicalType, ty, atomic, list, struct, Fields, Datum, is_nullable, with_nullability}
@@ -138,16 +138,10 @@ is_additive Sum = true
 is_additive Difference = true
 is_additive _ = false
 
--- whether the arithmetic is the remainder
-abbrev pub is_remainder : Arithmetic → Bool
-is_remainder Remainder = true
-is_remainder _ = false
-
--- whether the arithmetic takes values of the type: numbers, but of floating-point numbers no remainder, and decimals where it adds or
--- subtracts alone
+-- whether the arithmetic takes values of the type: numbers, but decimals where it adds or subtracts alone
 abbrev pub is_number_for : Arithmetic → LogicalType → Bool
 is_number_for a (ty (atomic (number p)) n) = true
-is_number_for a (ty (atomic (floating f)) n) = not (is_remainder a)
+is_number_for a (ty (atomic (floating f)) n) = true
 is_number_for a (ty (atomic (decimals p s)) n) = is_additive a
 is_number_for a _ = false
 

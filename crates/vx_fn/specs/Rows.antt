@@ -8,7 +8,7 @@ use Rattle.vx_floats.specs.declared.arithmetic.Arithmetic.{Arithmetic}
 use Rattle.vx_dtype.specs.declared.dtype.PType.{PType}
 use Rattle.vx_dtype.specs.declared.dtype.PType.TheVariants.{I64}
 use Rattle.vx_dtype.specs.declared.float_type.FloatType.{FloatType}
-use Rattle.vx_fn.specs.Functions.{Function, case_when, get_item, literal, pack, select, fill_null, zip, binary, logical_not, between, like, is_null, is_not_null, mask, cast, starts_with, byte_length, list_contains, compares, and_also, or_else, computes, is_additive, is_remainder, Comparison, selection_names, included, case_children, conditions, branches, is_truth}
+use Rattle.vx_fn.specs.Functions.{Function, case_when, get_item, literal, pack, select, fill_null, zip, binary, logical_not, between, like, is_null, is_not_null, mask, cast, starts_with, byte_length, list_contains, compares, and_also, or_else, computes, is_additive, Comparison, selection_names, included, case_children, conditions, branches, is_truth}
 use Rattle.vx_fn.specs.declared.options.FieldSelection.{FieldSelection}
 
 -- a function over types of children, and the type that it then has
@@ -25,7 +25,7 @@ pub data FnType : Function → List LogicalType → LogicalType → Type 0 where
   of_and : {n m : Bool} → FnType (binary and_also) (ty (atomic truth) n ∷ ty (atomic truth) m ∷ []) (ty (atomic truth) (n || m))
   of_or : {n m : Bool} → FnType (binary or_else) (ty (atomic truth) n ∷ ty (atomic truth) m ∷ []) (ty (atomic truth) (n || m))
   of_arithmetic : {a : Arithmetic} {p q : PType} {n m : Bool} → IsTrue (same_ptype p q) → FnType (binary (computes a)) (ty (atomic (number p)) n ∷ ty (atomic (number q)) m ∷ []) (ty (atomic (number p)) (n || m))
-  of_float_arithmetic : {a : Arithmetic} {f g : FloatType} {n m : Bool} → IsTrue (not (is_remainder a)) → IsTrue (same_float_type f g) → FnType (binary (computes a)) (ty (atomic (floating f)) n ∷ ty (atomic (floating g)) m ∷ []) (ty (atomic (floating f)) (n || m))
+  of_float_arithmetic : {a : Arithmetic} {f g : FloatType} {n m : Bool} → IsTrue (same_float_type f g) → FnType (binary (computes a)) (ty (atomic (floating f)) n ∷ ty (atomic (floating g)) m ∷ []) (ty (atomic (floating f)) (n || m))
   of_decimal_arithmetic : {a : Arithmetic} {p s q r : ℕ} {n m : Bool} → IsTrue (is_additive a) → IsTrue ((p == q) && (s == r)) → FnType (binary (computes a)) (ty (atomic (decimals p s)) n ∷ ty (atomic (decimals q r)) m ∷ []) (ty (atomic (decimals p s)) (n || m))
   of_not : {n : Bool} → FnType logical_not (ty (atomic truth) n ∷ []) (ty (atomic truth) n)
   of_between : {ls us : Bool} {p q r : Atomic} {n m k : Bool} → IsTrue (same_atomic p q) → IsTrue (same_atomic p r) → FnType (between ls us) (ty (atomic p) n ∷ ty (atomic q) m ∷ ty (atomic r) k ∷ []) (ty (atomic truth) (n || m || k))

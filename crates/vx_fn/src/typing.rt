@@ -61,8 +61,8 @@ impl ScalarFnRef {
     /// - `Binary`, a comparison, and `Between`: `NotComparable` (8) at a list or a struct,
     ///   `BaseTypesDiffer` (6).
     /// - `Binary`, And or Or, and `Not`: `NotBool` (7).
-    /// - `Binary`, arithmetic: `NotNumeric` (9) at a type of no numbers, at decimals that are neither
-    ///   added nor subtracted, or at the remainder of floats, `BaseTypesDiffer` (6).
+    /// - `Binary`, arithmetic: `NotNumeric` (9) at a type of no numbers, or at decimals that are neither
+    ///   added nor subtracted, `BaseTypesDiffer` (6).
     /// - `Like`, `StartsWith` and `ByteLength`: `NotText` (10).
     /// - `ListContains`: `NotComparable` (8) at a needle that is a list or a struct, `BaseTypesDiffer`
     ///   (6) where the other is no list of such values.

@@ -181,7 +181,7 @@ pub fn checked_div<T: TreeNode, L: Operand<T>, R: Operand<T>>(
 
 /// The remainder of the left operand by the right one, with the left one's sign. Refuses as the
 /// first operand that was refused, else over sources with `OutOfMemory` (1) alone, over bound trees
-/// as the node does: `NotNumeric` (9), also of decimals and floats, `BaseTypesDiffer` (6).
+/// as the node does: `NotNumeric` (9), also of decimals, `BaseTypesDiffer` (6).
 pub fn checked_rem<T: TreeNode, L: Operand<T>, R: Operand<T>>(
     alloc: Global,
     lhs: L,

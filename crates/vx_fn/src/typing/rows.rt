@@ -115,8 +115,7 @@ fn is_number_for(arithmetic: Arithmetic, t: &DType) -> bool
     ensures { result ≡ is_number_for arithmetic (type_of t.now) }
 {
     match t {
-        DType::Primitive(_, _) => true,
-        DType::Float(_, _) => !matches!(arithmetic, Arithmetic::Remainder),
+        DType::Primitive(_, _) | DType::Float(_, _) => true,
         DType::Decimal(_, _) => is_additive(arithmetic),
         _ => false,
     }
