@@ -17,3 +17,4 @@ pub mod Cuts
 mod Divisors
 mod Results
 mod Leaves
+mod Gathered

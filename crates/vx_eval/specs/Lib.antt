@@ -8,3 +8,5 @@ pub mod Items
 pub mod Across
 pub mod Numbers
 pub mod Leaves
+pub mod Elements
+pub mod Searches

@@ -12,6 +12,7 @@ ghost use Rattle.vx_eval.specs.Leaves.{are_leaves, is_leaf, is_scope};
 
 use crate::across::looks_across;
 use crate::rows::Rows;
+use crate::searches::searches;
 use crate::trees::evaluate;
 use std::alloc::Global;
 use std::sync::Arc;
@@ -49,12 +50,13 @@ pub fn evaluate_over(
 }
 
 // The tree's value in each row, or the first fault. Of several blocks one may fault in a node, and a
-// later one in a node whose fault comes first: so where a block faults all rows are asked together.
+// later one in a node whose fault comes first: so where a block faults all rows are asked together, as
+// they are where a long list is made ready for look-ups.
 fn values_over(alloc: Global, b: &BoundExpression, rows: &[Value]) -> VortexResult<Vec<Value>>
     requires { WellTyped (bound_of b.now) }
     ensures { ReturnsOrOom (λ values. values_of values.items) result (tree_answer (bound_of b.now) (values_of rows.now)) }
 {
-    if rows.len() <= BLOCK || reads_leaves_alone(b) || looks_across(b) {
+    if rows.len() <= BLOCK || reads_leaves_alone(b) || looks_across(b) || searches(b) {
         return together(alloc, b, rows);
     }
     match by_blocks(alloc, b, rows) {

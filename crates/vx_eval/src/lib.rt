@@ -25,6 +25,7 @@ mod nulls;
 mod numbers;
 mod packed;
 mod rows;
+mod searches;
 mod text;
 mod trees;
 mod truths;
