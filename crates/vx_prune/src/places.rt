@@ -1,10 +1,13 @@
 // The places in the rows of a type.
-use std::alloc::Global;
-use vx_types::{DType, FieldPath, StructFields, VortexResult};
+use std::alloc::{AllocError, Global};
+use vx_source_types::NameText;
+use vx_types::{DType, Field, FieldName, FieldPath, StructFields, VortexResult};
 
-/// A place in the rows of a type: the path that leads there, and the type of what stands there.
+/// A place in the rows of a type: what a record calls it, the path that leads there, and the type of
+/// what stands there.
 #[derive(Drop)]
 pub struct Place<'a> {
+    pub name: FieldName,
     pub path: FieldPath,
     pub dtype: &'a DType,
 }
@@ -24,6 +27,7 @@ fn push_places<'a>(
     places: &mut Vec<Place<'a>>,
 ) -> VortexResult<()> {
     let here = Place {
+        name: FieldName::new(alloc, place_text(alloc, &path)?.as_str())?,
         path: path.clone()?,
         dtype,
     };
@@ -48,4 +52,17 @@ fn push_fields<'a>(
         push_places(alloc, inside, &types[i], places)?;
     }
     Ok(())
+}
+
+// The path as source text has it: the names with dots between them, and `$` for the whole row.
+fn place_text(alloc: Global, path: &FieldPath) -> Result<String, AllocError> {
+    let mut text = String::new(alloc);
+    for Field::Name(name) in path.parts() {
+        let before = if text.is_empty() { "" } else { "." };
+        text.push_str(format!(in alloc; "{before}{}", NameText(name))?.as_str())?;
+    }
+    if text.is_empty() {
+        text.push('$')?;
+    }
+    Ok(text)
 }

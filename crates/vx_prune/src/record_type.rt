@@ -1,10 +1,8 @@
 // The type of a record of statistics.
 use crate::places::Place;
-use std::alloc::{AllocError, Global};
-use vx_source_types::NameText;
+use std::alloc::Global;
 use vx_types::{
-    DType, Field, FieldName, FieldNames, FieldPath, Nullability, PType, StructFields, VortexError,
-    VortexResult,
+    DType, FieldName, FieldNames, Nullability, PType, StructFields, VortexError, VortexResult,
 };
 
 /// The type of a record of statistics of rows with these places: how many rows there are, and for
@@ -13,7 +11,7 @@ pub fn record_type(alloc: Global, places: &[Place<'_>]) -> VortexResult<DType> {
     let mut names = Vec::with_capacity(alloc, places.len())?;
     let mut types = Vec::with_capacity(alloc, places.len())?;
     for place in places {
-        names.push(FieldName::new(alloc, place_text(alloc, &place.path)?.as_str())?)?;
+        names.push(place.name.clone()?)?;
         types.push(known_type(alloc, place.dtype)?)?;
     }
     let fields = struct_type(alloc, names, types, Nullability::Nullable)?;
@@ -23,19 +21,6 @@ pub fn record_type(alloc: Global, places: &[Place<'_>]) -> VortexResult<DType> {
         fields,
     ]?;
     struct_type(alloc, names, types, Nullability::NonNullable)
-}
-
-// The path as source text has it: the names with dots between them, and `$` for the whole row.
-fn place_text(alloc: Global, path: &FieldPath) -> Result<String, AllocError> {
-    let mut text = String::new(alloc);
-    for Field::Name(name) in path.parts() {
-        let before = if text.is_empty() { "" } else { "." };
-        text.push_str(format!(in alloc; "{before}{}", NameText(name))?.as_str())?;
-    }
-    if text.is_empty() {
-        text.push('$')?;
-    }
-    Ok(text)
 }
 
 // What may be said of values of the type: how many are null, and of those that can be compared also

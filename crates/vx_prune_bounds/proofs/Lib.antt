@@ -16,3 +16,4 @@ pub mod Likeness
 pub mod LikeMonotone
 pub mod BegunTexts
 pub mod Lengths
+pub mod Searched

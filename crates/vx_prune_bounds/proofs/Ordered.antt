@@ -196,16 +196,17 @@ at_most-order v w e = le_in_order (told v w e)
 pub below-order : (v w : Datum) → below v w ≡ true → is_lt (order v w) ≡ true
 below-order v w e = let p = and_parts _ _ e in lt_in_order (told v w p.0) p.1
 
+-- each value is in its own place
+pub order_itself : (v : Datum) → order v v ≡ Equal
+order_itself (bool a) = tied_itself bool_cmp_total a
+order_itself (int i) = tied_itself int_cmp_total i
+order_itself (float y) = tied_itself float_total y
+order_itself (utf8 s) = tied_itself nat_list_cmp_total s
+order_itself (bytes s) = tied_itself nat_list_cmp_total s
+order_itself _ = refl
+
 pub own_order : (v : Datum) → at_most v v ≡ true → order v v ≡ Equal
-own_order v e = go (told v v e)
-  where
-    go : {w : Datum} → AtMost w w → order w w ≡ Equal
-    go {w = bool a} x = tied_itself bool_cmp_total a
-    go {w = int i} x = tied_itself int_cmp_total i
-    go {w = float y} x = tied_itself float_total y
-    go {w = utf8 s} x = tied_itself nat_list_cmp_total s
-    go {w = bytes s} x = tied_itself nat_list_cmp_total s
-    go {w = _} x = refl
+own_order v e = order_itself v
 
 pub not_null_end : (v w : Datum) → at_most v w ≡ true → is_null_datum v ≡ false
 not_null_end v w e = go (told v w e)

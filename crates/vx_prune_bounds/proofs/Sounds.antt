@@ -161,7 +161,7 @@ agrees-opposite less_or_equal Less = refl
 agrees-opposite less_or_equal Equal = refl
 agrees-opposite less_or_equal Greater = refl
 
-known_at_most : (g l : Option Datum) (v w : Datum) → both_known at_most g l ≡ true → is_up_to g v ≡ true → is_from l w ≡ true → at_most v w ≡ true
+pub known_at_most : (g l : Option Datum) (v w : Datum) → both_known at_most g l ≡ true → is_up_to g v ≡ true → is_from l w ≡ true → at_most v w ≡ true
 known_at_most None l v w e p q = cc
 known_at_most (Some g) None v w e p q = cc
 known_at_most (Some g) (Some l) v w e p q = at_most-trans v l w (at_most-trans v g l p e) q
@@ -213,11 +213,11 @@ surely-sound greater_or_equal x y v w i j e = rw (order-turned v w) (le-back (or
 surely-sound less x y v w i j e = below-order v w (known_below x.greatest y.least v w e i.up_to j.from)
 surely-sound less_or_equal x y v w i j e = at_most-order v w (known_at_most x.greatest y.least v w e i.up_to j.from)
 
-answer : (t : Truths) (b : Bool) → (b ≡ true → t.yes ≡ true) → (b ≡ false → t.no ≡ true) → MayBe t (bool b)
+pub answer : (t : Truths) (b : Bool) → (b ≡ true → t.yes ≡ true) → (b ≡ false → t.no ≡ true) → MayBe t (bool b)
 answer t true f g = f refl
 answer t false f g = g refl
 
-unless : (s a : Bool) → (s ≡ true → a ≡ true) → a ≡ false → not s ≡ true
+pub unless : (s a : Bool) → (s ≡ true → a ≡ true) → a ≡ false → not s ≡ true
 unless true a f e = let q = f refl in cc
 unless false a f e = refl
 

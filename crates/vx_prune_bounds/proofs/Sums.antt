@@ -1,12 +1,12 @@
 -- What is computed of numbers within bounds.
-use Rattle.std.proofs.Common.{◌≡◌, refl, ap, Bool, true, false, ◌&&◌, not, arith}
+use Rattle.std.proofs.Common.{◌≡◌, refl, ap, Bool, true, false, ◌&&◌, arith}
 use Rattle.std.specs.Prelude.{ℤ, ◌≤ℤ◌, ◌<ℤ◌, Option, Some, None, IsTrue}
 use Rattle.std.specs.declared.cmp.Ordering.{Ordering}
 use Rattle.std.specs.declared.cmp.Ordering.TheVariants.{Less, Equal, Greater}
 use Rattle.std.specs.Cmp.{int_ranks}
 use Rattle.std.specs.Float.{Format}
 use Rattle.std.specs.Float as ieee
-use Rattle.std.specs.Float.Ieee.{add, sub, mul, div}
+use Rattle.std.specs.Float.Ieee.{add, sub, mul, div, rem}
 use Rattle.std.specs.Option.{option_map}
 use Rattle.std.specs.Ordering.{is_le, int_cmp, MatchOrdering}
 use Rattle.std.proofs.lemmas.Bool.{and_from, or_left, or_right}
@@ -18,7 +18,6 @@ use Rattle.vx_floats.specs.declared.arithmetic.Arithmetic.TheVariants.{Sum, Diff
 use Rattle.vx_floats.specs.declared.float.Float.{Float}
 use Rattle.vx_value.specs.Fits.{Fits}
 use Rattle.vx_value.specs.Types.{same_float_type, number, floating, decimals, LogicalType, ty, atomic, Datum, null, int, float}
-use Rattle.vx_fn.specs.Functions.{is_remainder}
 use Rattle.vx_fn.specs.Values.{computed, whole_result}
 use Rattle.vx_prune_bounds.specs.Bounds.{Bounds, is_from, is_up_to, Contains, starts_within, ends_within, is_interval}
 use Rattle.vx_prune_bounds.specs.Spans.{Side, Least, Greatest, Span, span_end}
@@ -180,24 +179,24 @@ float_parts a x y p q z h k =
       up_to = rw (no_float_end a Greatest x y p q h k) refl;
     })
 
--- there is a result, but for the remainder
-float_result-in : (a : Arithmetic) (x y : Bounds) (p q : Float) (f : Format) (of : ieee.Float → Float) (c d : ieee.Float) → IsTrue (not (is_remainder a)) → Contains x (float p) → Contains y (float q) →
+-- there is a result
+float_result-in : (a : Arithmetic) (x y : Bounds) (p q : Float) (f : Format) (of : ieee.Float → Float) (c d : ieee.Float) → Contains x (float p) → Contains y (float q) →
     Contains (arithmetic_bounds a x y) (elim (option_map of (ieee_result a f c d)) [ Some z ↦ float z | None ↦ null ])
-float_result-in Sum x y p q f of c d r h k = float_parts Sum x y p q (of (add f c d)) h k
-float_result-in Difference x y p q f of c d r h k = float_parts Difference x y p q (of (sub f c d)) h k
-float_result-in Product x y p q f of c d r h k = float_parts Product x y p q (of (mul f c d)) h k
-float_result-in Quotient x y p q f of c d r h k = float_parts Quotient x y p q (of (div f c d)) h k
-float_result-in Remainder x y p q f of c d r h k = cc
+float_result-in Sum x y p q f of c d h k = float_parts Sum x y p q (of (add f c d)) h k
+float_result-in Difference x y p q f of c d h k = float_parts Difference x y p q (of (sub f c d)) h k
+float_result-in Product x y p q f of c d h k = float_parts Product x y p q (of (mul f c d)) h k
+float_result-in Quotient x y p q f of c d h k = float_parts Quotient x y p q (of (div f c d)) h k
+float_result-in Remainder x y p q f of c d h k = float_parts Remainder x y p q (of (rem f c d)) h k
 
-of_format : (a : Arithmetic) (x y : Bounds) (f g : FloatType) (p q : Float) → IsTrue (not (is_remainder a)) → IsTrue (same_float_type f g) → IsTrue (same_float_type (format_of p) f && is_canonical p) →
+of_format : (a : Arithmetic) (x y : Bounds) (f g : FloatType) (p q : Float) → IsTrue (same_float_type f g) → IsTrue (same_float_type (format_of p) f && is_canonical p) →
     IsTrue (same_float_type (format_of q) g && is_canonical q) → Contains x (float p) → Contains y (float q) → Contains (arithmetic_bounds a x y) (computed a (float p) (float q))
-of_format a x y FloatType.F32 FloatType.F32 (Float.F32 b) (Float.F32 c) r s d e h k = float_result-in a x y (Float.F32 b) (Float.F32 c) _ _ _ _ r h k
-of_format a x y FloatType.F64 FloatType.F64 (Float.F64 b) (Float.F64 c) r s d e h k = float_result-in a x y (Float.F64 b) (Float.F64 c) _ _ _ _ r h k
-of_format _ _ _ _ _ _ _ r s d e h k = cc
+of_format a x y FloatType.F32 FloatType.F32 (Float.F32 b) (Float.F32 c) s d e h k = float_result-in a x y (Float.F32 b) (Float.F32 c) _ _ _ _ h k
+of_format a x y FloatType.F64 FloatType.F64 (Float.F64 b) (Float.F64 c) s d e h k = float_result-in a x y (Float.F64 b) (Float.F64 c) _ _ _ _ h k
+of_format _ _ _ _ _ _ _ s d e h k = cc
 
-pub computed_floats-sound : (a : Arithmetic) (f g : FloatType) (n m : Bool) (x y : Bounds) (v w : Datum) → IsTrue (not (is_remainder a)) → IsTrue (same_float_type f g) → Fits v (ty (atomic (floating f)) n) → Fits w (ty (atomic (floating g)) m) →
+pub computed_floats-sound : (a : Arithmetic) (f g : FloatType) (n m : Bool) (x y : Bounds) (v w : Datum) → IsTrue (same_float_type f g) → Fits v (ty (atomic (floating f)) n) → Fits w (ty (atomic (floating g)) m) →
     Contains x v → Contains y w → Contains (arithmetic_bounds a x y) (computed a v w)
-computed_floats-sound a f g n m x y null w r s c d h k = or_left x.null y.null h
-computed_floats-sound a f g n m x y (float p) null r s c d h k = or_right x.null y.null k
-computed_floats-sound a f g n m x y (float p) (float q) r s c d h k = of_format a x y f g p q r s c d h k
-computed_floats-sound a f g n m x y _ _ r s c d h k = cc
+computed_floats-sound a f g n m x y null w s c d h k = or_left x.null y.null h
+computed_floats-sound a f g n m x y (float p) null s c d h k = or_right x.null y.null k
+computed_floats-sound a f g n m x y (float p) (float q) s c d h k = of_format a x y f g p q s c d h k
+computed_floats-sound a f g n m x y _ _ s c d h k = cc

@@ -8,3 +8,4 @@ pub mod Views
 pub mod Laws
 pub mod Beginnings
 pub mod Begun
+pub mod Searching

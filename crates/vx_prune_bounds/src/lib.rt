@@ -10,6 +10,7 @@ mod joins;
 mod kernels;
 mod laws;
 mod like;
+mod searching;
 mod shown;
 mod spans;
 mod truths;
@@ -25,5 +26,6 @@ pub use laws::{
     values_are_bounds, wider_bounds_contain_more,
 };
 pub use like::like_truths;
+pub use searching::search_truths;
 pub use shown::TypedBounds;
 pub use truths::Truths;

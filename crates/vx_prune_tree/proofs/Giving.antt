@@ -1,12 +1,12 @@
 -- What a function gives of values within bounds is within the function's bounds.
-use Rattle.std.proofs.Common.{◌≡◌, List, [], ◌∷◌, refl, Bool, true, false, ◌&&◌, None}
+use Rattle.std.proofs.Common.{◌≡◌, List, [], ◌∷◌, refl, Bool, true, false, ◌&&◌, Option, Some, None}
 use Rattle.std.specs.Prelude.{if◌then◌else◌, not}
 use Rattle.std.proofs.lemmas.Bool.{and_from, and_parts}
 use Rattle.vx_value.specs.Fields.{field_value}
 use Rattle.vx_value.specs.Fits.{Fits, EachFits}
-use Rattle.vx_value.specs.Types.{Name, number, decimals, LogicalType, ty, atomic, struct, Fields, Datum, null, bool, struct_of, is_null_datum}
+use Rattle.vx_value.specs.Types.{Name, number, decimals, LogicalType, ty, atomic, struct, Fields, Datum, null, bool, list_of, struct_of, Data, is_null_datum}
 use Rattle.vx_dtype.specs.Lists.{Forall2, forall2_nil, forall2_cons}
-use Rattle.vx_fn.specs.Functions.{Function}
+use Rattle.vx_fn.specs.Functions.{Function, list_contains}
 use Rattle.vx_fn.specs.Rows.{FnType, of_case_else, of_case, of_get_item, of_literal, of_pack, of_select, of_fill_null, of_zip, of_comparison, of_and, of_or, of_arithmetic, of_float_arithmetic, of_decimal_arithmetic, of_not, of_between, of_like, of_is_null, of_is_not_null, of_mask, of_cast, of_starts_with, of_byte_length, of_list_contains}
 use Rattle.vx_fn.specs.Values.{begun, bound_comparison, compared, contained, fn_value, item_value, kleene_and, kleene_not, kleene_or, liked, select_value}
 use Rattle.vx_fn.specs.declared.options.FieldSelection.{FieldSelection}
@@ -20,9 +20,11 @@ use Rattle.vx_prune_bounds.specs.Truths.{and_truths, not_truths, or_truths, trut
 use Rattle.vx_prune_bounds.proofs.Likeness.{like-sound}
 use Rattle.vx_prune_bounds.proofs.BegunTexts.{begun-sound}
 use Rattle.vx_prune_bounds.proofs.Lengths.{length-sound}
+use Rattle.vx_prune_bounds.proofs.Searched.{search-sound}
 use Rattle.vx_prune_bounds.specs.Begun.{begun_truths}
+use Rattle.vx_prune_bounds.specs.Searching.{search_truths}
 use Rattle.vx_prune_bounds.specs.Beginnings.{like_truths}
-use Rattle.vx_prune_tree.specs.Bounding.{unknown, item_bounds, fn_bounds}
+use Rattle.vx_prune_tree.specs.Bounding.{unknown, item_bounds, fn_bounds, given_bounds}
 
 -- each value is within what leaves room for all
 room : (c : Bool) (v : Datum) → c ≡ true → Contains (bounds true c None None) v
@@ -44,6 +46,10 @@ select-sound sel fs n x null e h = shaped_as-sound x null null refl h
 select-sound sel fs n x (struct_of vs) e h = shaped_as-sound x (struct_of vs) (select_value sel (ty (struct fs) n ∷ []) (struct_of vs)) refl h
 select-sound sel fs n x _ e h = cc
 
+-- a search of a value among those elements
+pub data Searches : Function → Data → List Datum → Type 0 where
+  a_search : {ws : Data} {v : Datum} → Searches list_contains ws (list_of ws ∷ v ∷ [])
+
 pub fn_bounds-sound : {f : Function} {ts : List LogicalType} {t : LogicalType} {vs : List Datum} {xs : List Bounds} →
     FnType f ts t → EachFits vs ts → Forall2 Contains xs vs → Contains (fn_bounds f xs) (fn_value f ts vs)
 fn_bounds-sound (of_case_else l z c b u) a h = case-sound h a c
@@ -63,8 +69,8 @@ fn_bounds-sound (of_or {n = n} {m = m}) (forall2_cons {x = v} e (forall2_cons {x
     truth_bounds-sound (or_truths (truths_in x) (truths_in y)) (kleene_or v w) (or-sound (truths_in x) (truths_in y) v w (truths_in-sound x v n e h) (truths_in-sound y w m f g))
 fn_bounds-sound (of_arithmetic {a = c} {p = p} {q = q} {n = n} {m = m} s) (forall2_cons {x = v} e (forall2_cons {x = w} f forall2_nil)) (forall2_cons {x = x} h (forall2_cons {x = y} g forall2_nil)) =
     computed-sound c x y (numeric (ty (atomic (number p)) n) v refl e) (numeric (ty (atomic (number q)) m) w refl f) h g
-fn_bounds-sound (of_float_arithmetic {a = c} {f = f} {g = g} {n = n} {m = m} k s) (forall2_cons {x = v} e (forall2_cons {x = w} h forall2_nil)) (forall2_cons {x = x} i (forall2_cons {x = y} j forall2_nil)) =
-    computed_floats-sound c f g n m x y v w k s e h i j
+fn_bounds-sound (of_float_arithmetic {a = c} {f = f} {g = g} {n = n} {m = m} s) (forall2_cons {x = v} e (forall2_cons {x = w} h forall2_nil)) (forall2_cons {x = x} i (forall2_cons {x = y} j forall2_nil)) =
+    computed_floats-sound c f g n m x y v w s e h i j
 fn_bounds-sound (of_decimal_arithmetic {a = c} {p = p} {s = s} {q = q} {r = r} {n = n} {m = m} additive a) (forall2_cons {x = v} e (forall2_cons {x = w} f forall2_nil)) (forall2_cons {x = x} h (forall2_cons {x = y} g forall2_nil)) =
     computed-sound c x y (numeric (ty (atomic (decimals p s)) n) v refl e) (numeric (ty (atomic (decimals q r)) m) w refl f) h g
 fn_bounds-sound (of_not {n = n}) (forall2_cons {x = v} e forall2_nil) (forall2_cons {x = x} h forall2_nil) =
@@ -81,3 +87,12 @@ fn_bounds-sound (of_starts_with {n = n} {m = m}) (forall2_cons {x = v} e (forall
     truth_bounds-sound (begun_truths x y) (begun v w) (begun-sound x y v w n m e f h g)
 fn_bounds-sound (of_byte_length {n = n}) (forall2_cons {x = v} e forall2_nil) (forall2_cons {x = x} h forall2_nil) = length-sound n x v e h
 fn_bounds-sound (of_list_contains s) (forall2_cons {x = v} e (forall2_cons {x = w} f forall2_nil)) (forall2_cons {x = x} h (forall2_cons {x = y} g forall2_nil)) = in-unknown (contained v w)
+
+-- so where the elements that are searched are those of the list that is the first value
+pub given_bounds-sound : {f : Function} {ts : List LogicalType} {t : LogicalType} {vs : List Datum} {xs : List Bounds} (known : Option Data) →
+    FnType f ts t → EachFits vs ts → Forall2 Contains xs vs → ((ws : Data) → known ≡ Some ws → Searches f ws vs) → Contains (given_bounds f known xs) (fn_value f ts vs)
+given_bounds-sound None k a h s = fn_bounds-sound k a h
+given_bounds-sound {f = f} {ts = ts} {vs = vs} {xs = xs} (Some ws) k a h s = found (s ws refl) h
+  where
+    found : {g : Function} {us : List Datum} {ys : List Bounds} → Searches g ws us → Forall2 Contains ys us → Contains (given_bounds g (Some ws) ys) (fn_value g ts us)
+    found (a_search {v = v}) (forall2_cons g (forall2_cons {x = x} h forall2_nil)) = truth_bounds-sound (search_truths ws x) (contained (list_of ws) v) (search-sound ws x v h)

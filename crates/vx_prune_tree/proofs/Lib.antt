@@ -14,3 +14,4 @@ pub mod Found
 pub mod Steps
 pub mod Narrowing
 pub mod Proper
+pub mod Consistency

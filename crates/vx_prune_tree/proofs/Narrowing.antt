@@ -2,7 +2,7 @@
 use Rattle.std.proofs.Common.{◌≡◌, ℕ, List, [], refl, sym, subst, Bool, true, false, Option, Some, None}
 use Rattle.std.specs.Prelude.{◌==◌, if◌then◌else◌, not}
 use Rattle.vx_value.specs.Paths.{Path}
-use Rattle.vx_value.specs.Types.{LogicalType}
+use Rattle.vx_value.specs.Types.{LogicalType, Data}
 use Rattle.vx_dtype.specs.Lists.{Forall2, forall2_nil, forall2_cons}
 use Rattle.vx_fn.specs.Functions.{Function, case_when, get_item, literal, pack, select, fill_null, zip, binary, logical_not, between, like, is_null, is_not_null, mask, cast, starts_with, byte_length, list_contains, Operation, compares, and_also, or_else, computes}
 use Rattle.vx_tree.specs.Trees.{BoundTree, scope, node, BoundTrees, no_bound, bound}
@@ -22,7 +22,9 @@ use Rattle.vx_prune_bounds.specs.Beginnings.{like_truths}
 use Rattle.vx_prune_bounds.proofs.BegunTexts.{begun-mono}
 use Rattle.vx_prune_bounds.specs.Begun.{begun_truths}
 use Rattle.vx_prune_bounds.proofs.Lengths.{length-mono}
-use Rattle.vx_prune_tree.specs.Bounding.{at_path_or, binary_bounds, bounds_in, each_bounds_in, fn_bounds, item_bounds, item_path, of_one, of_three, of_two, path_to_only, unknown}
+use Rattle.vx_prune_bounds.proofs.Searched.{search-mono}
+use Rattle.vx_prune_bounds.specs.Searching.{search_truths}
+use Rattle.vx_prune_tree.specs.Bounding.{at_path_or, binary_bounds, bounds_in, each_bounds_in, fn_bounds, given_bounds, item_bounds, item_path, of_one, of_three, of_two, path_to_only, searched, unknown}
 use Rattle.vx_prune_tree.specs.Verdicts.{verdict_of, IsAsSure, MoreIsAsSure, MoreNarrows}
 use Rattle.vx_prune_tree.specs.declared.verdicts.Verdict.TheVariants.{EveryRow, NoRow, Unknown}
 
@@ -88,6 +90,10 @@ fn_bounds-mono starts_with a = two-mono _ (λ x y n v w k. truth_bounds-mono (be
 fn_bounds-mono byte_length a = one-mono _ (λ x y n. length-mono x y n.0) a
 fn_bounds-mono list_contains a = two-mono _ (λ x y n v w k. refl) a
 
+given_bounds-mono : (f : Function) (known : Option Data) {xs ys : List Bounds} → Forall2 Narrows xs ys → IsWithin (given_bounds f known xs) (given_bounds f known ys)
+given_bounds-mono f None a = fn_bounds-mono f a
+given_bounds-mono f (Some ws) a = two-mono _ (λ x y n v w k. truth_bounds-mono (search_truths ws v) (search_truths ws w) (search-mono ws v w k.0)) a
+
 -- ---- trees
 
 at_path_or-mono : (less more : Facts) → KnowsMore less more → (o : Option Path) (x y : Bounds) → IsWithin x y → IsWithin (at_path_or more o x) (at_path_or less o y)
@@ -103,9 +109,9 @@ mutual
       (typed-mono t (at_path_or more (Some []) unknown) (at_path_or less (Some []) unknown) (at_path_or-mono less more k (Some []) unknown unknown refl), meet-proper (any_of t) (at_path_or more (Some []) unknown))
   bounds_in-narrow less more (node t f bs) k =
       let o = item_path f (path_to_only bs) in
-      let x = fn_bounds f (each_bounds_in more bs) in
-      let y = fn_bounds f (each_bounds_in less bs) in
-      (typed-mono t (at_path_or more o x) (at_path_or less o y) (at_path_or-mono less more k o x y (fn_bounds-mono f (each_bounds_in-narrow less more bs k))), meet-proper (any_of t) (at_path_or more o x))
+      let x = given_bounds f (searched f bs) (each_bounds_in more bs) in
+      let y = given_bounds f (searched f bs) (each_bounds_in less bs) in
+      (typed-mono t (at_path_or more o x) (at_path_or less o y) (at_path_or-mono less more k o x y (given_bounds-mono f (searched f bs) (each_bounds_in-narrow less more bs k))), meet-proper (any_of t) (at_path_or more o x))
 
   each_bounds_in-narrow : (less more : Facts) (bs : BoundTrees) → KnowsMore less more → Forall2 Narrows (each_bounds_in more bs) (each_bounds_in less bs)
   each_bounds_in-narrow less more no_bound k = forall2_nil

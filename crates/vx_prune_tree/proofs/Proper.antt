@@ -1,7 +1,8 @@
 -- Bounds along paths and what functions give of trees' bounds are proper, so that all that a type takes away of them is null.
-use Rattle.std.proofs.Common.{◌≡◌, List, [], ◌∷◌, refl, sym, subst, true, Some}
+use Rattle.std.proofs.Common.{◌≡◌, List, [], ◌∷◌, refl, sym, subst, true, Option, Some, None}
 use Rattle.std.specs.Prelude.{is_some}
 use Rattle.vx_value.specs.Paths.{Path}
+use Rattle.vx_value.specs.Types.{Data}
 use Rattle.vx_fn.specs.Functions.{Function, case_when, get_item, literal, pack, select, fill_null, zip, binary, logical_not, between, like, is_null, is_not_null, mask, cast, starts_with, byte_length, list_contains, Operation, compares, and_also, or_else, computes}
 use Rattle.vx_tree.specs.Trees.{BoundTree, scope, node, BoundTrees, no_bound, bound}
 use Rattle.vx_prune_bounds.proofs.Contained.{exactly-proper, implied}
@@ -13,11 +14,12 @@ use Rattle.vx_prune_bounds.specs.Kernels.{null_truths}
 use Rattle.vx_prune_bounds.specs.Truths.{and_truths, not_truths, or_truths, truths_in}
 use Rattle.vx_prune_bounds.specs.Beginnings.{like_truths}
 use Rattle.vx_prune_bounds.specs.Begun.{begun_truths}
+use Rattle.vx_prune_bounds.specs.Searching.{search_truths}
 use Rattle.vx_prune_bounds.proofs.Lengths.{length-proper}
 use Rattle.vx_prune_tree.proofs.StatisticsBounding.{field_bounds-proper}
 use Rattle.vx_prune_tree.specs.Stats.{Facts, facts_at, field_bounds}
 use Rattle.vx_prune_tree.proofs.Steps.{some_path}
-use Rattle.vx_prune_tree.specs.Bounding.{at_path_or, binary_bounds, bounds_in, each_bounds_in, fn_bounds, item_bounds, item_path, of_one, of_three, of_two, path_to, path_to_only, unknown}
+use Rattle.vx_prune_tree.specs.Bounding.{at_path_or, binary_bounds, bounds_in, each_bounds_in, fn_bounds, given_bounds, item_bounds, item_path, of_one, of_three, of_two, path_to, path_to_only, searched, unknown}
 
 -- ---- functions
 
@@ -65,11 +67,15 @@ fn_bounds-proper starts_with xs p = two-proper _ (λ x y q r. truth_bounds-prope
 fn_bounds-proper byte_length xs p = one-proper _ (λ x q. length-proper x) xs p
 fn_bounds-proper list_contains xs p = two-proper _ (λ x y q r. refl) xs p
 
+given_bounds-proper : (f : Function) (known : Option Data) (xs : List Bounds) → EachProper xs → IsProper (given_bounds f known xs)
+given_bounds-proper f None xs p = fn_bounds-proper f xs p
+given_bounds-proper f (Some ws) xs p = two-proper _ (λ x y q r. truth_bounds-proper (search_truths ws y)) xs p
+
 -- ---- trees
 
 bounds_in-proper : (facts : Facts) (b : BoundTree) → IsProper (bounds_in facts b)
 bounds_in-proper facts (scope t) = meet-proper (any_of t) (at_path_or facts (Some []) unknown)
-bounds_in-proper facts (node t f bs) = meet-proper (any_of t) (at_path_or facts (item_path f (path_to_only bs)) (fn_bounds f (each_bounds_in facts bs)))
+bounds_in-proper facts (node t f bs) = meet-proper (any_of t) (at_path_or facts (item_path f (path_to_only bs)) (given_bounds f (searched f bs) (each_bounds_in facts bs)))
 
 each_bounds_in-proper : (facts : Facts) (bs : BoundTrees) → EachProper (each_bounds_in facts bs)
 each_bounds_in-proper facts no_bound = tt
@@ -81,5 +87,5 @@ pub along-proper : (facts : Facts) (b : BoundTree) (y : Bounds) → is_some (pat
 along-proper facts b y s along = let p = some_path (path_to b) s in subst IsProper (sym (along p.0 p.1)) (field_bounds-proper facts.rows (facts_at facts.fields p.0))
 
 -- and so are those that a function gives
-pub given-proper : (facts : Facts) (f : Function) (bs : BoundTrees) (y : Bounds) → y ≡ fn_bounds f (each_bounds_in facts bs) → IsProper y
-given-proper facts f bs y e = subst IsProper (sym e) (fn_bounds-proper f (each_bounds_in facts bs) (each_bounds_in-proper facts bs))
+pub given-proper : (facts : Facts) (f : Function) (bs : BoundTrees) (y : Bounds) → y ≡ given_bounds f (searched f bs) (each_bounds_in facts bs) → IsProper y
+given-proper facts f bs y e = subst IsProper (sym e) (given_bounds-proper f (searched f bs) (each_bounds_in facts bs) (each_bounds_in-proper facts bs))

@@ -20,7 +20,7 @@ use Rattle.vx_prune_bounds.specs.Kernels.{case_bounds, choice_bounds}
 use Rattle.vx_prune_bounds.specs.Truths.{truths_in}
 use Rattle.vx_prune_bounds.specs.declared.truths.Truths.{Truths}
 use Rattle.vx_prune_tree.specs.Stats.{Facts, facts_at, field_bounds}
-use Rattle.vx_prune_tree.specs.Bounding.{at_path_or, bounds_in, each_bounds_in, fn_bounds, item_path, path_to, path_to_only, unknown}
+use Rattle.vx_prune_tree.specs.Bounding.{at_path_or, bounds_in, each_bounds_in, fn_bounds, given_bounds, item_path, path_to, path_to_only, searched, unknown}
 use Rattle.vx_prune_tree.specs.Cases.{is_of_children}
 
 -- ---- a node
@@ -31,7 +31,7 @@ some_path (Some path) e = (path, refl)
 
 along_path : (facts : Facts) (b : BoundTree) (path : Path) → path_to b ≡ Some path → meet (any_of (node_type b)) (field_bounds facts.rows (facts_at facts.fields path)) ≡ bounds_in facts b
 along_path facts (scope t) path e = sym (ap (λ o. meet (any_of t) (at_path_or facts o unknown)) e)
-along_path facts (node t f bs) path e = sym (ap (λ o. meet (any_of t) (at_path_or facts o (fn_bounds f (each_bounds_in facts bs)))) e)
+along_path facts (node t f bs) path e = sym (ap (λ o. meet (any_of t) (at_path_or facts o (given_bounds f (searched f bs) (each_bounds_in facts bs)))) e)
 
 -- the bounds of a tree that is a path, by those along it
 pub path-given : (facts : Facts) (b : BoundTree) (t : LogicalType) (r y : Bounds) → is_some (path_to b) ≡ true → t ≡ node_type b →
@@ -47,19 +47,28 @@ no_path (Some path) e = cc
 
 -- and of one that is none, by those that its function gives
 pub node-given : (facts : Facts) (e : BoundExpression) (t : DType) (f : ScalarFnRef) (all : Arc (Vec BoundExpression Global) Global) (children : List BoundExpression) (r y : Bounds) →
-    e ≡ Scalar t f all → children ≡ all.value.items → is_some (path_to (bound_of e)) ≡ false → y ≡ fn_bounds (function_of f) (each_bounds_in facts (bounds_of children)) →
+    e ≡ Scalar t f all → children ≡ all.value.items → is_some (path_to (bound_of e)) ≡ false → y ≡ given_bounds (function_of f) (searched (function_of f) (bounds_of children)) (each_bounds_in facts (bounds_of children)) →
     r ≡ meet (any_of (type_of t)) y → r ≡ bounds_in facts (bound_of e)
 node-given facts e t f all children r y is those s given m =
     let bs = bounds_of children in
     let seen : bound_of e ≡ node (type_of t) (function_of f) bs = ap bound_of is ∙ bound_of-Scalar t f all ∙ ap (λ ds. node (type_of t) (function_of f) (bounds_of ds)) (sym those) in
     let none : item_path (function_of f) (path_to_only bs) ≡ None = ap path_to (sym seen) ∙ no_path (path_to (bound_of e)) s in
     m ∙ ap (meet (any_of (type_of t))) given
-    ∙ sym (ap (λ o. meet (any_of (type_of t)) (at_path_or facts o (fn_bounds (function_of f) (each_bounds_in facts bs)))) none) ∙ sym (ap (bounds_in facts) seen)
+    ∙ sym (ap (λ o. meet (any_of (type_of t)) (at_path_or facts o (given_bounds (function_of f) (searched (function_of f) bs) (each_bounds_in facts bs)))) none) ∙ sym (ap (bounds_in facts) seen)
 
 -- ---- children
 
+-- a function of three children or more searches nothing known
+pub three-given : (facts : Facts) (f : Function) (bs : List BoundExpression) (r : Bounds) → 3 ≤ length bs →
+    r ≡ fn_bounds f (each_bounds_in facts (bounds_of bs)) → r ≡ given_bounds f (searched f (bounds_of bs)) (each_bounds_in facts (bounds_of bs))
+three-given facts f [] r h e = absurd (omega arith)
+three-given facts f (a ∷ []) r h e = absurd (omega arith)
+three-given facts f (a ∷ b ∷ []) r h e = absurd (omega arith)
+three-given facts f (a ∷ b ∷ c ∷ bs) r h e = e
+
 -- of four children or more nothing is known
-pub many-unknown : (facts : Facts) (f : Function) (bs : List BoundExpression) → is_of_children f ≡ true → 4 ≤ length bs → fn_bounds f (each_bounds_in facts (bounds_of bs)) ≡ unknown
+pub many-unknown : (facts : Facts) (f : Function) (bs : List BoundExpression) → is_of_children f ≡ true → 4 ≤ length bs →
+    given_bounds f (searched f (bounds_of bs)) (each_bounds_in facts (bounds_of bs)) ≡ unknown
 many-unknown facts f [] k h = absurd (omega arith)
 many-unknown facts f (a ∷ []) k h = absurd (omega arith)
 many-unknown facts f (a ∷ b ∷ []) k h = absurd (omega arith)

@@ -1,6 +1,7 @@
 -- Bounds of a tree's values in a chunk of which something is known.
 use Rattle.std.specs.Prelude.{true, false, List, [], ◌∷◌, ◌++◌, Option, Some, None, option_map}
 use Rattle.vx_value.specs.Paths.{Path}
+use Rattle.vx_value.specs.Types.{Datum, Data, list_of}
 use Rattle.vx_fn.specs.Functions.{Function, case_when, get_item, literal, pack, select, fill_null, zip, binary, logical_not, between, like, is_null, is_not_null, mask, cast, starts_with, byte_length, list_contains, Operation, compares, and_also, or_else, computes}
 use Rattle.vx_tree.specs.Trees.{BoundTree, scope, node, BoundTrees, no_bound, bound}
 use Rattle.vx_prune_bounds.specs.Bounds.{Bounds, bounds, any_of, exactly, meet}
@@ -9,6 +10,7 @@ use Rattle.vx_prune_bounds.specs.Comparing.{comparison_truths, between_truths}
 use Rattle.vx_prune_bounds.specs.Kernels.{arithmetic_bounds, fill_bounds, choice_bounds, mask_bounds, case_bounds, null_truths, shaped_as, length_bounds}
 use Rattle.vx_prune_bounds.specs.Beginnings.{like_truths}
 use Rattle.vx_prune_bounds.specs.Begun.{begun_truths}
+use Rattle.vx_prune_bounds.specs.Searching.{search_truths}
 use Rattle.vx_prune_tree.specs.Stats.{Facts, facts_at, field_bounds}
 
 -- ---- paths
@@ -102,6 +104,33 @@ fn_bounds starts_with = of_two (λ x p. truth_bounds (begun_truths x p))
 fn_bounds byte_length = of_one length_bounds
 fn_bounds list_contains = of_two (λ x y. unknown)
 
+-- ---- searches in known lists
+
+-- the elements of a list
+abbrev pub elements_of : Datum → Option Data
+elements_of (list_of ws) = Some ws
+elements_of _ = None
+
+-- the elements of a list that is a literal
+abbrev pub literal_elements : BoundTree → Option Data
+literal_elements (node t (literal u v) bs) = elements_of v
+literal_elements _ = None
+
+-- the elements that a function searches whose first child this is, if they are known
+abbrev pub searched_in : Function → BoundTree → Option Data
+searched_in list_contains b = literal_elements b
+searched_in _ b = None
+
+-- the elements that a function of two children searches, if they are known
+abbrev pub searched : Function → BoundTrees → Option Data
+searched f (bound b (bound c no_bound)) = searched_in f b
+searched f _ = None
+
+-- bounds of what a function gives: of a search in known elements by those, else by the bounds of its children
+abbrev pub given_bounds : Function → Option Data → List Bounds → Bounds
+given_bounds f None xs = fn_bounds f xs
+given_bounds f (Some ws) xs = of_two (λ l x. truth_bounds (search_truths ws x)) xs
+
 -- ---- trees
 
 -- bounds of the values along a path, where the tree's are those, else what the function gives
@@ -113,7 +142,7 @@ at_path_or facts (Some path) otherwise = field_bounds facts.rows (facts_at facts
 abbrev mutual
   pub bounds_in : Facts → BoundTree → Bounds
   bounds_in facts (scope t) = meet (any_of t) (at_path_or facts (Some []) unknown)
-  bounds_in facts (node t f bs) = meet (any_of t) (at_path_or facts (item_path f (path_to_only bs)) (fn_bounds f (each_bounds_in facts bs)))
+  bounds_in facts (node t f bs) = meet (any_of t) (at_path_or facts (item_path f (path_to_only bs)) (given_bounds f (searched f bs) (each_bounds_in facts bs)))
 
   pub each_bounds_in : Facts → BoundTrees → List Bounds
   each_bounds_in facts no_bound = []

@@ -9,3 +9,4 @@ pub mod Ends
 pub mod Bounding
 pub mod Cases
 pub mod Verdicts
+pub mod Consistent

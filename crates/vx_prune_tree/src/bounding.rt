@@ -6,16 +6,17 @@ ghost use Rattle.vx_tree.specs.Views.{bound_of, bounds_of};
 ghost use Rattle.vx_prune_bounds.specs.Kernels.{case_bounds};
 ghost use Rattle.vx_prune_bounds.specs.Truths.{truths_in};
 ghost use Rattle.vx_prune_bounds.specs.Views.{bounds_view};
-ghost use Rattle.vx_prune_tree.specs.Bounding.{bounds_in, each_bounds_in, fn_bounds, item_path, path_to, path_to_only};
+ghost use Rattle.vx_prune_tree.specs.Bounding.{bounds_in, each_bounds_in, fn_bounds, given_bounds, item_path, path_to, path_to_only, searched};
 ghost use Rattle.vx_prune_tree.specs.Cases.{is_of_children};
 ghost use Rattle.vx_prune_tree.specs.Verdicts.{BoundsHold};
 
 use crate::chunk_stats::ChunkStats;
 use crate::functions::{
-    put_literal, put_null, put_of_one, put_of_pair, put_of_three, put_of_two, put_of_type,
-    put_struct, put_unknown, unknown,
+    put_literal, put_null, put_of_one, put_of_pair, put_of_three, put_of_type, put_struct,
+    put_unknown, unknown,
 };
 use crate::paths::{is_path, put_along};
+use crate::searches::put_of_first;
 use vx_fn::ScalarFnRef;
 use vx_prune_bounds::{Bounds, Truths};
 use vx_tree::BoundExpression;
@@ -23,12 +24,13 @@ use vx_tree::BoundExpression;
 /// Bounds of the tree's values in a chunk of these statistics. Asks a well-typed tree.
 ///
 /// Those of a path, which is the scope root or a field of a path, are what the statistics say of that
-/// path; those of another tree are made of its children's bounds, by its function; and null is within
-/// them only if it is of the tree's type. In each row of a batch of which the statistics are true, and
-/// on which the tree doesn't fault, the tree's value is within them.
+/// path; those of a search in a list that is a literal are made of `=` with each of its elements; those
+/// of another tree are made of its children's bounds, by its function; and null is within them only if
+/// it is of the tree's type. In each row of a batch of which the statistics are true, and on which the
+/// tree doesn't fault, the tree's value is within them.
 ///
-/// Takes no memory. Looks at each node of the tree no more than twice, and besides at each node of a
-/// path once for each entry of the statistics.
+/// Takes no memory. Looks at each node of the tree no more than three times, at each element of such a
+/// list once, and besides at each node of a path once for each entry of the statistics.
 pub fn bounds<'a>(e: &'a BoundExpression, stats: &'a ChunkStats) -> Bounds<'a>
     requires { WellTyped (bound_of e.now) }
     ensures exact { bounds_view result ≡ bounds_in stats.now (bound_of e.now) }
@@ -87,7 +89,7 @@ fn put_given<'a>(
     known: &mut Bounds<'a>,
 )
     requires { item_path (function_of f.now) (path_to_only (bounds_of children.now)) ≡ None }
-    ensures { bounds_view known.new ≡ fn_bounds (function_of f.now) (each_bounds_in stats.now (bounds_of children.now)) }
+    ensures { bounds_view known.new ≡ given_bounds (function_of f.now) (searched (function_of f.now) (bounds_of children.now)) (each_bounds_in stats.now (bounds_of children.now)) }
 {
     match f {
         ScalarFnRef::CaseWhen(_) => put_case(children, stats, known),
@@ -132,12 +134,12 @@ fn put_of_two_children<'a>(
 )
     requires kind { IsTrue (is_of_children (function_of f.now)) }
     requires number { length children.now ≡ 2 }
-    ensures { bounds_view known.new ≡ fn_bounds (function_of f.now) (each_bounds_in stats.now (bounds_of children.now)) }
+    ensures { bounds_view known.new ≡ given_bounds (function_of f.now) (searched (function_of f.now) (bounds_of children.now)) (each_bounds_in stats.now (bounds_of children.now)) }
 {
     put_bounds(&children[0], stats, known);
     let mut second = *known;
     put_bounds(&children[1], stats, &mut second);
-    put_of_two(f, known, &second);
+    put_of_first(f, &children[0], known, &second);
 }
 
 // Puts those of a function of three children there.

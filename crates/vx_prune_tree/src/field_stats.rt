@@ -1,9 +1,11 @@
 // Statistics of the values along a path.
-ghost use Rattle.std.specs.Prelude.{◌≡◌, option_map};
+ghost use Rattle.std.specs.Prelude.{◌≡◌, None, option_map};
 ghost use Rattle.vx_value.specs.Views.{value_of};
 ghost use Rattle.vx_prune_bounds.specs.Views.{bounds_view, endpoint_value};
+ghost use Rattle.vx_prune_tree.specs.Consistent.{AreConsistent, are_at_most, are_ordered, inconsistency_of};
 ghost use Rattle.vx_prune_tree.specs.Stats.{field_bounds, is_known_as, known_end, no_facts};
 
+use crate::order::at_most;
 use vx_prune_bounds::{Bounds, Endpoint, is_interval};
 use vx_types::Value;
 
@@ -16,6 +18,15 @@ pub struct FieldStats {
     pub least: Option<Value>,
     /// A value that comes behind each one that isn't null, or is equal to it.
     pub greatest: Option<Value>,
+}
+
+/// What can't be so of the values along a path.
+#[derive(Clone, Copy, Debug, PartialEq, Eq)]
+pub enum Inconsistency {
+    /// More of them are null than there are rows.
+    MoreNullsThanRows,
+    /// The least one comes behind the greatest, or the two can't be compared.
+    LeastAboveGreatest,
 }
 
 impl FieldStats {
@@ -47,6 +58,42 @@ impl FieldStats {
             least,
             greatest,
         }
+    }
+
+    /// What of this can't be so of values in a chunk of so many rows, if something can't: more nulls
+    /// than rows, else a least value that isn't at most the greatest. NaN comes behind every other
+    /// number. Takes no memory.
+    pub fn inconsistency(&self, rows: usize) -> Option<Inconsistency>
+        ensures exact { result ≡ inconsistency_of rows (stats_facts self.now) }
+        ensures consistent { result ≡ None → AreConsistent rows (stats_facts self.now) }
+    {
+        if !are_at_most(self.null_count, rows) {
+            Some(Inconsistency::MoreNullsThanRows)
+        } else if !are_ordered(&self.least, &self.greatest) {
+            Some(Inconsistency::LeastAboveGreatest)
+        } else {
+            None
+        }
+    }
+}
+
+// Whether there are no more than so many, where their number is known.
+fn are_at_most(known: Option<usize>, rows: usize) -> bool
+    ensures { result ≡ are_at_most known rows }
+{
+    match known {
+        Some(count) => count <= rows,
+        None => true,
+    }
+}
+
+// Whether the first value is at most the second, where both are known.
+fn are_ordered(least: &Option<Value>, greatest: &Option<Value>) -> bool
+    ensures { result ≡ are_ordered (option_map value_of least.now) (option_map value_of greatest.now) }
+{
+    match (least, greatest) {
+        (Some(least), Some(greatest)) => at_most(least, greatest),
+        _ => true,
     }
 }
 

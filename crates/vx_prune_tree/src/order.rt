@@ -9,7 +9,7 @@ use vx_prune_bounds::Endpoint;
 use vx_types::Value;
 
 // Whether the two can be compared, and the first comes before the second or is equal to it.
-fn at_most(v: &Value, w: &Value) -> bool
+pub(crate) fn at_most(v: &Value, w: &Value) -> bool
     ensures { result ≡ order.at_most (value_of v.now) (value_of w.now) }
 {
     match Endpoint::of(v) {

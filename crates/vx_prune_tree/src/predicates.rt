@@ -18,8 +18,9 @@ use vx_tree::BoundExpression;
 /// its bounds, and in every row where neither `false` nor null is. That is so of each batch of which
 /// the statistics are true, and on which the tree doesn't fault.
 ///
-/// Takes no memory. Looks at each node of the tree no more than twice, and besides at each node of a
-/// path once for each entry of the statistics.
+/// Takes no memory. Looks at each node of the tree no more than three times, at each element of a list
+/// that is a literal and searched once, and besides at each node of a path once for each entry of the
+/// statistics.
 pub fn verdict(e: &BoundExpression, stats: &ChunkStats) -> Verdict
     requires typed { WellTyped (bound_of e.now) }
     requires truth { IsTrue (is_truth (node_type (bound_of e.now))) }

@@ -5,7 +5,7 @@ use Rattle.vx_value.specs.Views.{type_of}
 use Rattle.vx_prune_bounds.specs.Views.{bounds_view}
 use Rattle.vx_prune_tree.specs.Cases.{is_of_children}
 use Rattle.vx_prune_tree.proofs.Proper.{along-proper, given-proper}
-use Rattle.vx_prune_tree.proofs.Steps.{path-given, node-given, many-unknown, case-more, case-all}
+use Rattle.vx_prune_tree.proofs.Steps.{path-given, node-given, three-given, many-unknown, case-more, case-all}
 use Rattle.vx_prune_tree.proofs.bounding.+put_bounds.Goals as goal
 
 pub put_bounds_of-put_of_type-requires : goal.put_bounds_of-put_of_type-requires
@@ -27,6 +27,10 @@ put_bounds_of-returns t c =
     (bounds_view c.put_of_type-in-Scalar.new.x) (bounds_view c.put_given.new.known)
     c.in-Scalar.is (c.as_slice.ensures.value ∙ ap (λ v. v.items) c.deref.ensures) (sym c.requires ∙ c.if-is_path.false)
     c.put_given.ensures c.put_of_type-in-Scalar.ensures
+
+pub put_given-returns-in-len3 : goal.put_given-returns-in-len3
+put_given-returns-in-len3 t c =
+    three-given c.args.stats.now (function_of c.args.f.now) c.args.children.now (bounds_view c.put_of_three_children.new.known) c.in-len3.len_at_least c.put_of_three_children.ensures
 
 pub put_given-returns-in_default-children : goal.put_given-returns-in_default-children
 put_given-returns-in_default-children t c =
