@@ -10,7 +10,7 @@ use Rattle.vx_rewrite_rule_laws.proofs.FoldingKeeping.{folds_keep}
 use Rattle.vx_rewrite_rule_laws.specs.Folding.{constant_given, fold_given, known_given}
 use Rattle.vx_rewrite_folding.specs.Known.{test_of, tree_of, IsMade}
 use Rattle.vx_rewrite_folding.specs.declared.known.Known.{Known}
-use Rattle.vx_rewrite_folding.specs.declared.known.Known.TheVariants.{Tree, Truth, Null, Beginning}
+use Rattle.vx_rewrite_folding.specs.declared.known.Known.TheVariants.{Tree, Truth, Null, NullTest, Beginning}
 
 takes_null : (t : LogicalType) → Fits null t → IsTrue (is_nullable t)
 takes_null (ty s n) e = e
@@ -22,6 +22,7 @@ is_made b (Truth v) w n e = tt
 is_made b (Null t) w n e =
     let given : fold_given b ≡ Some (literal_node (type_of t.now) null) = rw (n, e) refl in
     takes_null (type_of t.now) (folds_keep b (literal_node (type_of t.now) null) w given).typed_after.1
+is_made b (NullTest v x) w n e = tt
 is_made b (Beginning a) w n e =
     let given : fold_given b ≡ Some (test_of a) = rw (n, e) refl in
     (folds_keep b (test_of a) w given).typed_after.2.1.0.1

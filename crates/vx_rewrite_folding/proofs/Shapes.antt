@@ -1,6 +1,6 @@
 -- What is known of a node by its parts is known of the node.
-use Rattle.std.proofs.Common.{◌≡◌, sym, ap, ◌∙◌, refl}
-use Rattle.std.specs.Prelude.{Option, Some, None}
+use Rattle.std.proofs.Common.{◌≡◌, refl}
+use Rattle.std.specs.Prelude.{Some, None}
 use Rattle.vx_value.specs.Types.{LogicalType}
 use Rattle.vx_fn.specs.Functions.{Function}
 use Rattle.vx_tree.specs.Nodes.{function_at, bound_children_of}

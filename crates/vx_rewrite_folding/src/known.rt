@@ -11,16 +11,18 @@ ghost use Rattle.vx_rewrite_rule_laws.specs.Folding.{known_given};
 ghost use Rattle.vx_tree.specs.Trees.{node};
 ghost use Rattle.vx_tree.specs.Views.{bound_of, bounds_of};
 
+use crate::arithmetic::known_of_arithmetic;
 use crate::constants::truth_literal;
 use crate::like::{beginning_tree, known_of_like};
 use crate::logic::known_of_logic;
 use crate::nulls::{known_of_between, known_of_comparison};
-use crate::single::{known_of_cast, known_of_mask, known_of_not, known_of_test};
+use crate::searches::known_of_search;
+use crate::single::{known_of_cast, known_of_mask, known_of_not, known_of_test, null_test};
 use std::alloc::Global;
 use vx_fn::{Operator, ScalarFnRef};
 use vx_rewrite_core::{null_of, pair};
 use vx_tree::{BoundExpression, VortexResult};
-use vx_types::DType;
+use vx_types::{Arithmetic, DType};
 
 // What stands for a node.
 #[derive(Clone, Copy)]
@@ -31,6 +33,8 @@ pub(crate) enum Known<'a> {
     Truth(bool),
     // The null literal of that type.
     Null(&'a DType),
+    // The test whether a tree is null, or that it is not.
+    NullTest(bool, &'a BoundExpression),
     // A test whether texts begin with one.
     Beginning(BeginningTest<'a>),
 }
@@ -61,6 +65,7 @@ pub(crate) fn known_of<'a>(
         ScalarFnRef::Cast(_) => known_of_cast(dtype, children),
         ScalarFnRef::Mask(_) => known_of_mask(children),
         ScalarFnRef::Like(options) => known_of_like(dtype, *options, children),
+        ScalarFnRef::ListContains(_) => known_of_search(dtype, children),
         ScalarFnRef::IsNull(_) => known_of_test(false, children),
         ScalarFnRef::IsNotNull(_) => known_of_test(true, children),
         _ => None,
@@ -79,7 +84,11 @@ fn known_of_binary<'a>(
     match operator {
         Operator::And => known_of_logic(true, left, right),
         Operator::Or => known_of_logic(false, left, right),
-        Operator::Add | Operator::Sub | Operator::Mul | Operator::Div | Operator::Rem => None,
+        Operator::Add => known_of_arithmetic(Arithmetic::Sum, left, right),
+        Operator::Sub => known_of_arithmetic(Arithmetic::Difference, left, right),
+        Operator::Mul => known_of_arithmetic(Arithmetic::Product, left, right),
+        Operator::Div => known_of_arithmetic(Arithmetic::Quotient, left, right),
+        Operator::Rem => None,
         Operator::Eq
         | Operator::NotEq
         | Operator::Gt
@@ -98,6 +107,7 @@ pub(crate) fn known_tree(alloc: Global, known: &Known) -> VortexResult<BoundExpr
         Known::Tree(tree) => Ok(tree.clone()?),
         Known::Truth(b) => truth_literal(alloc, b),
         Known::Null(dtype) => null_of(alloc, dtype),
+        Known::NullTest(is_null, tested) => null_test(alloc, is_null, tested),
         Known::Beginning(test) => beginning_tree(alloc, test),
     }
 }

@@ -2,6 +2,7 @@
 // row is read.
 #![tactic(auto)]
 
+mod arithmetic;
 mod cases;
 mod constants;
 mod given;
@@ -10,6 +11,7 @@ mod like;
 mod logic;
 mod nulls;
 mod rules;
+mod searches;
 mod single;
 
 pub use rules::FoldingRules;

@@ -15,9 +15,15 @@ use vx_tree::{BoundExpression, VortexResult};
 /// | `And` | a side is the literal `false` | `false` |
 /// | `Or` | a side is the literal `false`, or both are equal | the other side |
 /// | `Or` | a side is the literal `true` | `true` |
-/// | a comparison | an operand is a null literal | the null literal of the node's type |
+/// | `Add` | an operand is the whole number or decimal 0 | the other operand |
+/// | `Sub` | the right operand is the whole number or decimal 0 | the left operand |
+/// | `Mul` | an operand is the whole number 1 | the other operand |
+/// | `Div` | the right operand is the whole number 1 | the left operand |
+/// | a comparison, `ListContains` | an operand is a null literal | the null literal of the node's type |
+/// | `ListContains` | the list is a literal without elements, and the value's type isn't nullable | `false` |
 /// | `Between` | the value is a null literal, or both bounds are | the null literal of the node's type |
 /// | `Not` of a `Not` | always | what that negates |
+/// | `Not` of an `IsNull` or `IsNotNull` | always | the other of the two, of the same child |
 /// | `Cast` | the child is of the node's type | the child |
 /// | `Mask` | the mask is the literal `true` | the input |
 /// | `Like`, neither negated nor blind to case | the pattern is a literal: a text without `%`, `_` and backslash, and a `%` behind it | `StartsWith` of that text |

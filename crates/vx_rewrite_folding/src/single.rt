@@ -1,34 +1,59 @@
-// What a function knows by its child alone: a negation undone, a cast to the child's own type, a mask
+// What a function knows by its child alone: a negation undone or of a test for null, a cast to the child's own type, a mask
 // that is always true, a test for null of what is never null.
-ghost use Rattle.std.specs.Prelude.{◌≡◌, option_and_then};
+ghost use Rattle.std.specs.Prelude.{◌≡◌, Ok, option_and_then};
 ghost use Rattle.std.specs.Option.{option_map};
+ghost use Rattle.vx_value.specs.Returns.{ReturnsOrOom};
 ghost use Rattle.vx_value.specs.Views.{type_of};
 ghost use Rattle.vx_fn.specs.Values.{is_true};
 ghost use Rattle.vx_rewrite_folding.specs.Known.{tree_of};
-ghost use Rattle.vx_rewrite_rule_laws.specs.Folding.{cast_given, is_literal_of, mask_given, not_given, test_given};
+ghost use Rattle.vx_rewrite_rule_laws.specs.Folding.{cast_given, is_literal_of, mask_given, not_given, null_test, test_given};
 ghost use Rattle.vx_rewrite_core.specs.Nodes.{only_one, two_of};
 ghost use Rattle.vx_tree.specs.Views.{bound_of, bounds_of};
 
 use crate::known::Known;
-use vx_fn::ScalarFnRef;
+use std::alloc::Global;
+use vx_fn::{EmptyOptions, ScalarFnRef};
 use vx_rewrite_core::{literal_value, only, pair};
-use vx_tree::BoundExpression;
-use vx_types::{DType, Value};
+use vx_tree::{BoundExpression, VortexResult};
+use vx_types::{DType, Nullability, Value};
 
-// What is known of a negation: of a negation, what that negates.
+// What is known of a negation: of a negation, what that negates, and of a test for null the other test.
 pub(crate) fn known_of_not<'a>(children: &'a [BoundExpression]) -> Option<Known<'a>>
     ensures { option_map tree_of result ≡ option_and_then not_given (only_one (bounds_of children.now)) }
 {
     let BoundExpression::Scalar {
-        scalar_fn: ScalarFnRef::Not(_),
+        scalar_fn,
         children,
         ..
     } = only(children)?
     else {
         return None;
     };
-    let negated = only(children.as_slice())?;
-    Some(Known::Tree(negated))
+    let operand = only(children.as_slice())?;
+    match scalar_fn {
+        ScalarFnRef::Not(_) => Some(Known::Tree(operand)),
+        ScalarFnRef::IsNull(_) => Some(Known::NullTest(false, operand)),
+        ScalarFnRef::IsNotNull(_) => Some(Known::NullTest(true, operand)),
+        _ => None,
+    }
+}
+
+// The test whether the tree is null, or that it is not.
+pub(crate) fn null_test(
+    alloc: Global,
+    is_null: bool,
+    tested: &BoundExpression,
+) -> VortexResult<BoundExpression>
+    ensures { ReturnsOrOom bound_of result (Ok (null_test is_null (bound_of tested.now))) }
+{
+    let children = vec![in alloc; tested.clone()?]?;
+    let function = if is_null {
+        ScalarFnRef::IsNull(EmptyOptions)
+    } else {
+        ScalarFnRef::IsNotNull(EmptyOptions)
+    };
+    let dtype = DType::Bool(Nullability::NonNullable);
+    BoundExpression::new_typed(alloc, dtype, function, children)
 }
 
 // What is known of a cast to the type: of a tree of that type, the tree.

@@ -6,7 +6,7 @@ use Rattle.vx_fn.specs.Functions.{Function, literal, fill_null, fn_type}
 use Rattle.vx_tree.specs.Trees.{BoundTree, scope, node, BoundTrees, no_bound, bound, node_types, WellTyped}
 use Rattle.vx_rewrite_core.specs.Weights.{weight, weights}
 use Rattle.vx_rewrite_core.specs.Sets.{Lightening}
-use Rattle.vx_rewrite_rule_laws.proofs.Folds.{Folds, constant, neutral_left, neutral_right, decided_left, decided_right, equal_sides, null_left, null_right, null_within, null_bounds, negated_twice, own_cast, masked_nowhere, begun, never_null, always_there, fewer_pairs, folds}
+use Rattle.vx_rewrite_rule_laws.proofs.Folds.{Folds, constant, neutral_left, neutral_right, decided_left, decided_right, equal_sides, unchanged_left, unchanged_right, null_list, null_element, in_nothing, null_denied, value_denied, null_left, null_right, null_within, null_bounds, negated_twice, own_cast, masked_nowhere, begun, never_null, always_there, fewer_pairs, folds}
 use Rattle.vx_rewrite_rule_laws.proofs.Pairs.{Without, no_pair, else_alone, left_out, stays}
 use Rattle.vx_rewrite_rule_laws.specs.Folding.{is_computed, FoldAt}
 
@@ -40,11 +40,18 @@ each_lightens b u w (neutral_right k e) = omega arith
 each_lightens b u w (decided_left {x = x} k e) = let h = some_weight x in omega (arith, h)
 each_lightens b u w (decided_right {x = x} k e) = let h = some_weight x in omega (arith, h)
 each_lightens b u w (equal_sides k) = omega arith
+each_lightens b u w (unchanged_left e) = omega arith
+each_lightens b u w (unchanged_right s e) = omega arith
 each_lightens b u w (null_left {x = x} e) = let h = some_weight x in omega (arith, h)
 each_lightens b u w (null_right {x = x} e) = let h = some_weight x in omega (arith, h)
 each_lightens b u w (null_within {x = x} e) = let h = some_weight x in omega (arith, h)
 each_lightens b u w (null_bounds {x = x} e f) = let h = some_weight x in omega (arith, h)
+each_lightens b u w (null_list {x = x} e) = let h = some_weight x in omega (arith, h)
+each_lightens b u w (null_element {x = x} e) = let h = some_weight x in omega (arith, h)
+each_lightens b u w (in_nothing {x = x} e f) = let h = some_weight x in omega (arith, h)
 each_lightens b u w negated_twice = omega arith
+each_lightens b u w null_denied = omega arith
+each_lightens b u w value_denied = omega arith
 each_lightens b u w (own_cast e) = omega arith
 each_lightens b u w (masked_nowhere e) = omega arith
 each_lightens b u w (begun e) = omega arith

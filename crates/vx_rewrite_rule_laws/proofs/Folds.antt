@@ -6,11 +6,12 @@ use Rattle.std.specs.Result.{result_ok}
 use Rattle.std.proofs.lemmas.Option.{option_and_then_some}
 use Rattle.std.proofs.lemmas.Bool.{and_parts, or_cases, not-true, ltb-true}
 use Rattle.vx_dtype.specs.declared.error.VortexError.{VortexError}
+use Rattle.vx_floats.specs.declared.arithmetic.Arithmetic.{Arithmetic}
 use Rattle.vx_value.specs.Deciding.{equal_type-Decides}
 use Rattle.vx_value.specs.Equality.{equal_type}
 use Rattle.vx_eval_like.specs.Beginnings.{beginning_of}
 use Rattle.vx_value.specs.Types.{LogicalType, Datum, null, bool, utf8, is_nullable, is_null_datum}
-use Rattle.vx_fn.specs.Functions.{Function, case_when, literal, binary, logical_not, between, like, is_null, is_not_null, mask, cast, Operation, Comparison, compares, and_also, or_else, fn_type}
+use Rattle.vx_fn.specs.Functions.{Function, case_when, literal, binary, logical_not, between, like, is_null, is_not_null, mask, cast, list_contains, Operation, Comparison, compares, and_also, or_else, computes, is_symmetric, fn_type}
 use Rattle.vx_fn.specs.Values.{is_true}
 use Rattle.vx_tree.specs.Binding.{node_over}
 use Rattle.vx_tree.specs.Equality.{equal_bound, equal_bound-Decides}
@@ -20,7 +21,7 @@ use Rattle.vx_tree.specs.Trees.{BoundTree, scope, node, BoundTrees, no_bound, bo
 use Rattle.vx_rewrite_core.specs.Nodes.{one_bound, two_bounds, three_bounds, only_if, literal_node, literal_value}
 use Rattle.vx_rewrite_rule_laws.proofs.StandardDecisions.{under_test}
 use Rattle.vx_rewrite_rule_laws.proofs.Pairs.{Without, without}
-use Rattle.vx_rewrite_rule_laws.specs.Folding.{is_literal_of, are_literals, truth_literal, is_computed, one_row, constant_given, beside, logic_given, comparison_given, between_given, not_given, cast_given, mask_given, begins_so, like_given, test_given, idle_pairs, without_idle, case_given, known_given, fold_given}
+use Rattle.vx_rewrite_rule_laws.specs.Folding.{is_literal_of, are_literals, truth_literal, is_computed, one_row, constant_given, beside, logic_given, comparison_given, between_given, is_neutral, arithmetic_given, is_empty_list, contains_given, null_test, not_given, cast_given, mask_given, begins_so, like_given, test_given, idle_pairs, without_idle, case_given, known_given, fold_given}
 
 -- And, which true leaves as it is, or Or, which false does
 abbrev pub joins : Bool → Operation
@@ -38,14 +39,24 @@ pub data Folds : BoundTree → BoundTree → Type 0 where
   decided_right : {t : LogicalType} {x y : BoundTree} (neutral : Bool) → literal_value y ≡ Some (bool (not neutral)) → Folds (node t (binary (joins neutral)) (two_bounds x y)) (truth_literal (not neutral))
   -- and one of two equal sides
   equal_sides : {t : LogicalType} {x : BoundTree} (neutral : Bool) → Folds (node t (binary (joins neutral)) (two_bounds x x)) x
+  -- a number beside the literal that leaves it as it is
+  unchanged_left : {t : LogicalType} {a : Arithmetic} {x y : BoundTree} → is_literal_of (is_neutral a) y ≡ true → Folds (node t (binary (computes a)) (two_bounds x y)) x
+  unchanged_right : {t : LogicalType} {a : Arithmetic} {x y : BoundTree} → is_symmetric a ≡ true → is_literal_of (is_neutral a) x ≡ true → Folds (node t (binary (computes a)) (two_bounds x y)) y
   -- a comparison with a null is null
   null_left : {t : LogicalType} {c : Comparison} {x y : BoundTree} → is_literal_of is_null_datum x ≡ true → Folds (node t (binary (compares c)) (two_bounds x y)) (literal_node t null)
   null_right : {t : LogicalType} {c : Comparison} {x y : BoundTree} → is_literal_of is_null_datum y ≡ true → Folds (node t (binary (compares c)) (two_bounds x y)) (literal_node t null)
   -- so is a test of a null by two bounds, and one by two nulls
   null_within : {t : LogicalType} {ls us : Bool} {x l u : BoundTree} → is_literal_of is_null_datum x ≡ true → Folds (node t (between ls us) (three_bounds x l u)) (literal_node t null)
   null_bounds : {t : LogicalType} {ls us : Bool} {x l u : BoundTree} → is_literal_of is_null_datum l ≡ true → is_literal_of is_null_datum u ≡ true → Folds (node t (between ls us) (three_bounds x l u)) (literal_node t null)
+  -- so is a search in a null list, and one of a null; in an empty list is nothing
+  null_list : {t : LogicalType} {x y : BoundTree} → is_literal_of is_null_datum x ≡ true → Folds (node t list_contains (two_bounds x y)) (literal_node t null)
+  null_element : {t : LogicalType} {x y : BoundTree} → is_literal_of is_null_datum y ≡ true → Folds (node t list_contains (two_bounds x y)) (literal_node t null)
+  in_nothing : {t : LogicalType} {x y : BoundTree} → is_literal_of is_empty_list x ≡ true → is_nullable (node_type y) ≡ false → Folds (node t list_contains (two_bounds x y)) (truth_literal false)
   -- a negation of a negation is what is negated
   negated_twice : {t p : LogicalType} {x : BoundTree} → Folds (node t logical_not (one_bound (node p logical_not (one_bound x)))) x
+  -- and that of a test for null is the other test
+  null_denied : {t p : LogicalType} {x : BoundTree} → Folds (node t logical_not (one_bound (node p is_null (one_bound x)))) (null_test false x)
+  value_denied : {t p : LogicalType} {x : BoundTree} → Folds (node t logical_not (one_bound (node p is_not_null (one_bound x)))) (null_test true x)
   -- a cast to the type of what is cast is that, and so is a mask that is true in every row
   own_cast : {t v : LogicalType} {x : BoundTree} → node_type x ≡ t → Folds (node t (cast v) (one_bound x)) x
   masked_nowhere : {t : LogicalType} {x m : BoundTree} → is_literal_of is_true m ≡ true → Folds (node t mask (two_bounds x m)) x
@@ -120,6 +131,15 @@ module _ (t : LogicalType) (neutral : Bool) (x y : BoundTree) where
       first (inl h) = option_and_then_some (beside neutral y) (literal_value x) u h (λ c q r. by_left u (beside_value neutral x y u c q r))
       first (inr h) = second (one_of _ _ u h)
 
+-- ---- arithmetic
+
+arithmetic_folds : (t : LogicalType) (a : Arithmetic) (x y u : BoundTree) → arithmetic_given a x y ≡ Some u → Folds (node t (binary (computes a)) (two_bounds x y)) u
+arithmetic_folds t a x y u e = go (one_of _ _ u e)
+  where
+    go : (only_if (is_literal_of (is_neutral a) y) x ≡ Some u) ⊎ (only_if (is_symmetric a && is_literal_of (is_neutral a) x) y ≡ Some u) → Folds (node t (binary (computes a)) (two_bounds x y)) u
+    go (inl h) = under_test (Folds (node t (binary (computes a)) (two_bounds x y))) (is_literal_of (is_neutral a) y) x u (λ q. unchanged_left q) h
+    go (inr h) = under_test (Folds (node t (binary (computes a)) (two_bounds x y))) (is_symmetric a && is_literal_of (is_neutral a) x) y u (λ q. let p = and_parts _ _ q in unchanged_right p.0 p.1) h
+
 -- ---- null operands
 
 comparison_folds : (t : LogicalType) (c : Comparison) (x y u : BoundTree) → comparison_given t x y ≡ Some u → Folds (node t (binary (compares c)) (two_bounds x y)) u
@@ -142,11 +162,30 @@ between_folds t ls us x l h u e =
     go (inl q) = null_within q
     go (inr q) = let p = and_parts _ _ q in null_bounds p.0 p.1
 
+-- ---- searches in lists
+
+contains_folds : (t : LogicalType) (x y u : BoundTree) → contains_given t x y ≡ Some u → Folds (node t list_contains (two_bounds x y)) u
+contains_folds t x y u e = go (one_of _ _ u e)
+  where
+    of_null : (is_literal_of is_null_datum x ≡ true) ⊎ (is_literal_of is_null_datum y ≡ true) → Folds (node t list_contains (two_bounds x y)) (literal_node t null)
+    of_null (inl h) = null_list h
+    of_null (inr h) = null_element h
+
+    go : (comparison_given t x y ≡ Some u) ⊎ (only_if (is_literal_of is_empty_list x && not (is_nullable (node_type y))) (truth_literal false) ≡ Some u) → Folds (node t list_contains (two_bounds x y)) u
+    go (inl h) = under_test (Folds (node t list_contains (two_bounds x y))) (is_literal_of is_null_datum x || is_literal_of is_null_datum y) (literal_node t null) u (λ q. of_null (or_cases _ _ q)) h
+    go (inr h) = under_test (Folds (node t list_contains (two_bounds x y))) (is_literal_of is_empty_list x && not (is_nullable (node_type y))) (truth_literal false) u (λ q. let p = and_parts _ _ q in in_nothing p.0 (not-true _ p.1)) h
+
 -- ---- functions of one child, and masks
 
 negation_folds : (t : LogicalType) (x u : BoundTree) → not_given x ≡ Some u → Folds (node t logical_not (one_bound x)) u
 negation_folds t (node p logical_not (bound x no_bound)) u e = let q : x ≡ u = cc in subst (Folds (node t logical_not (one_bound (node p logical_not (one_bound x))))) q negated_twice
+negation_folds t (node p is_null (bound x no_bound)) u e = let q : null_test false x ≡ u = cc in subst (Folds (node t logical_not (one_bound (node p is_null (one_bound x))))) q null_denied
+negation_folds t (node p is_not_null (bound x no_bound)) u e = let q : null_test true x ≡ u = cc in subst (Folds (node t logical_not (one_bound (node p is_not_null (one_bound x))))) q value_denied
 negation_folds t (node p logical_not no_bound) u e = cc
+negation_folds t (node p is_null no_bound) u e = cc
+negation_folds t (node p is_null (bound x (bound y ys))) u e = cc
+negation_folds t (node p is_not_null no_bound) u e = cc
+negation_folds t (node p is_not_null (bound x (bound y ys))) u e = cc
 negation_folds t (node p logical_not (bound x (bound y ys))) u e = cc
 negation_folds t _ u e = cc
 
@@ -189,11 +228,13 @@ known_folds : (b u : BoundTree) → known_given b ≡ Some u → Folds b u
 known_folds (node t (binary and_also) (bound x (bound y no_bound))) u e = logic_folds t true x y u e
 known_folds (node t (binary or_else) (bound x (bound y no_bound))) u e = logic_folds t false x y u e
 known_folds (node t (binary (compares c)) (bound x (bound y no_bound))) u e = comparison_folds t c x y u e
+known_folds (node t (binary (computes a)) (bound x (bound y no_bound))) u e = arithmetic_folds t a x y u e
 known_folds (node t (between ls us) (bound x (bound l (bound h no_bound)))) u e = between_folds t ls us x l h u e
 known_folds (node t logical_not (bound x no_bound)) u e = negation_folds t x u e
 known_folds (node t (cast v) (bound x no_bound)) u e = cast_folds t v x u e
 known_folds (node t mask (bound x (bound m no_bound))) u e = mask_folds t x m u e
 known_folds (node t (like false false) (bound x (bound m no_bound))) u e = like_folds t x m u e
+known_folds (node t list_contains (bound x (bound y no_bound))) u e = contains_folds t x y u e
 known_folds (node t is_null (bound x no_bound)) u e = null_folds t x u e
 known_folds (node t is_not_null (bound x no_bound)) u e = not_null_folds t x u e
 known_folds (node t (case_when pairs has_else) (bound c (bound x rest))) u e = case_folds t pairs has_else c x rest u e

@@ -18,8 +18,11 @@ pub mod BranchLawfulness
 pub mod Constants
 pub mod Pairs
 pub mod Folds
+pub mod Operands
 pub mod Logic
+pub mod Neutral
 pub mod Nulls
+pub mod Elements
 pub mod Undone
 pub mod Cases
 pub mod FoldingKeeping

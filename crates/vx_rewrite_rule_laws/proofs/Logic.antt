@@ -10,11 +10,12 @@ use Rattle.vx_fn.specs.Functions.{literal, binary, and_also, or_else, truth_type
 use Rattle.vx_fn.specs.Rows.{FnType, of_and, of_or}
 use Rattle.vx_fn.specs.Values.{binary_value}
 use Rattle.vx_tree.specs.Meaning.{value}
-use Rattle.vx_tree.specs.Trees.{BoundTree, node, no_bound, node_type, WellTyped}
+use Rattle.vx_tree.specs.Trees.{BoundTree, node, node_type, WellTyped}
 use Rattle.vx_rewrite_core.specs.Keeps.{Keeps}
-use Rattle.vx_rewrite_core.proofs.Prelude.{fn_type-found, value-fits, each_passes, first_quiet, children_quiet, second_quiet, IsChild, child-well_typed, child-over, child-quiet}
-use Rattle.vx_rewrite_core.specs.Nodes.{one_bound, two_bounds, literal_value}
+use Rattle.vx_rewrite_core.proofs.Prelude.{fn_type-found, IsChild}
+use Rattle.vx_rewrite_core.specs.Nodes.{two_bounds, literal_value}
 use Rattle.vx_rewrite_rule_laws.proofs.Folds.{joins}
+use Rattle.vx_rewrite_rule_laws.proofs.Operands.{keeps_operand}
 use Rattle.vx_rewrite_rule_laws.specs.Folding.{truth_literal}
 
 -- ---- the tables
@@ -80,18 +81,7 @@ module _ (t : LogicalType) (neutral : Bool) (x y : BoundTree) (w : WellTyped (no
 
   -- one side keeps it where it means the same of truth values
   keeps_side : (z : BoundTree) → IsChild z (two_bounds x y) → Narrower (node_type z) t → ((v : Datum) (n m : Bool) → Fits (value x v) (truth_type n) → Fits (value y v) (truth_type m) → value z v ≡ binary_value (joins neutral) (value x v) (value y v)) → Keeps (node t (binary (joins neutral)) (two_bounds x y)) z
-  keeps_side z c p same = record {
-    typed_before = w;
-    typed_after = child-well_typed z (two_bounds x y) c w.2;
-    scopes = λ s o. child-over z (two_bounds x y) s c o;
-    type = p;
-    no_fault = λ s batch o i n. child-quiet z (two_bounds x y) batch c (children_quiet t (binary (joins neutral)) (two_bounds x y) batch n);
-    meaning = λ s batch o i n v j.
-        let row = each_passes _ batch v i j in
-        let left = value-fits x s batch v w.2.0 o.0 (first_quiet x (one_bound y) batch (children_quiet t (binary (joins neutral)) (two_bounds x y) batch n)) j row in
-        let right = value-fits y s batch v w.2.1.0 o.1.0 (second_quiet t (binary (joins neutral)) x y no_bound batch n) j row in
-        same v typed.left typed.right (subst (Fits (value x v)) typed.first left) (subst (Fits (value y v)) typed.second right);
-  }
+  keeps_side z c p same = keeps_operand t (joins neutral) x y z w c p (λ v g h. same v typed.left typed.right (subst (Fits (value x v)) typed.first g) (subst (Fits (value y v)) typed.second h))
 
   keeps_decided : ((v : Datum) → bool (not neutral) ≡ binary_value (joins neutral) (value x v) (value y v)) → Keeps (node t (binary (joins neutral)) (two_bounds x y)) (truth_literal (not neutral))
   keeps_decided same = record {

@@ -20,18 +20,18 @@ use Rattle.vx_rewrite_rule_laws.specs.Folding.{is_literal_of, truth_literal}
 -- ---- null operands
 
 -- a literal null: its type has null, and it is null in every row
-record IsNullLiteral (x : BoundTree) : Type 0 where
+pub record IsNullLiteral (x : BoundTree) : Type 0 where
   pub fits : Fits null (node_type x)
   pub is : (v : Datum) → value x v ≡ null
 
-null_literal : (x : BoundTree) → WellTyped x → is_literal_of is_null_datum x ≡ true → IsNullLiteral x
+pub null_literal : (x : BoundTree) → WellTyped x → is_literal_of is_null_datum x ≡ true → IsNullLiteral x
 null_literal x w e =
     let l = literal_of is_null_datum x w e in
     let q = is_null_value l.constant l.passes in
     record { fits = subst (λ c. Fits c (node_type x)) q (constant_fits l w); is = λ v. let h = constant_value l v in cc }
 
 -- a node that is null in every row
-keeps_nowhere : (t : LogicalType) (f : Function) (xs : BoundTrees) → WellTyped (node t f xs) → Fits null t → ((v : Datum) → null ≡ fn_value f (node_types xs) (values xs v)) → Keeps (node t f xs) (literal_node t null)
+pub keeps_nowhere : (t : LogicalType) (f : Function) (xs : BoundTrees) → WellTyped (node t f xs) → Fits null t → ((v : Datum) → null ≡ fn_value f (node_types xs) (values xs v)) → Keeps (node t f xs) (literal_node t null)
 keeps_nowhere t f xs w h same = record {
   typed_before = w;
   typed_after = (refl, h, tt);

@@ -1,11 +1,14 @@
 -- Folding: what stands for a node whose value is known before any row is read.
-use Rattle.std.specs.Prelude.{◌≡◌, ℕ, ◌+◌, ◌-◌, Bool, true, false, ◌&&◌, ◌||◌, not, List, [], ◌∷◌, Option, Some, None, option_and_then, if◌then◌else◌, nat_lt}
+use Rattle.std.specs.Prelude.{◌≡◌, ℕ, ◌+◌, ◌-◌, ℤ, pos, Bool, true, false, ◌&&◌, ◌||◌, not, List, [], ◌∷◌, Option, Some, None, option_and_then, if◌then◌else◌, nat_lt}
 use Rattle.std.specs.Option.{option_map, option_or, is_none}
+use Rattle.std.specs.Ordering.{int_eq}
 use Rattle.std.specs.Result.{result_ok}
+use Rattle.vx_floats.specs.declared.arithmetic.Arithmetic.{Arithmetic}
+use Rattle.vx_floats.specs.declared.arithmetic.Arithmetic.TheVariants.{Sum, Difference, Product, Quotient, Remainder}
 use Rattle.vx_value.specs.Equality.{equal_type}
 use Rattle.vx_eval_like.specs.Beginnings.{beginning_of}
-use Rattle.vx_value.specs.Types.{LogicalType, Datum, null, bool, utf8, is_nullable, is_null_datum}
-use Rattle.vx_fn.specs.Functions.{Function, case_when, get_item, literal, pack, select, zip, fill_null, binary, logical_not, between, like, is_null, is_not_null, mask, cast, starts_with, byte_length, list_contains, compares, and_also, or_else, truth_type}
+use Rattle.vx_value.specs.Types.{LogicalType, Datum, null, bool, int, utf8, list_of, no_datum, is_nullable, is_null_datum}
+use Rattle.vx_fn.specs.Functions.{Function, case_when, get_item, literal, pack, select, zip, fill_null, binary, logical_not, between, like, is_null, is_not_null, mask, cast, starts_with, byte_length, list_contains, compares, and_also, or_else, computes, is_symmetric, truth_type}
 use Rattle.vx_fn.specs.Values.{is_true}
 use Rattle.vx_tree.specs.Binding.{node_over}
 use Rattle.vx_tree.specs.Equality.{equal_bound}
@@ -14,7 +17,7 @@ use Rattle.vx_tree.specs.Meaning.{value}
 use Rattle.vx_tree.specs.Trees.{BoundTree, node, BoundTrees, no_bound, bound, node_type}
 use Rattle.vx_rewrite_rule_laws.specs.Branches.{BranchRuleAt}
 use Rattle.vx_rewrite_core.specs.Steps.{GivesNothing}
-use Rattle.vx_rewrite_core.specs.Nodes.{two_bounds, only_one, two_of, three_of, first_two, only_if, literal_node, literal_value}
+use Rattle.vx_rewrite_core.specs.Nodes.{two_bounds, one_bound, only_one, two_of, three_of, first_two, only_if, literal_node, literal_value}
 use Rattle.vx_rewrite_core.specs.Sets.{either}
 
 -- ---- literals
@@ -80,9 +83,28 @@ logic_given neutral x y =
     (option_or (option_and_then (beside neutral x) (literal_value y))
     (only_if (equal_bound x y) x))
 
+-- ---- arithmetic
+
+-- whether a number that it is added to, subtracted from, multiplied with or divided by that one stays as it is
+abbrev pub leaves_as_is : Arithmetic → ℤ → Bool
+leaves_as_is Sum i = int_eq i (pos 0)
+leaves_as_is Difference i = int_eq i (pos 0)
+leaves_as_is Product i = int_eq i (pos 1)
+leaves_as_is Quotient i = int_eq i (pos 1)
+leaves_as_is Remainder i = false
+
+-- whether the value is such a whole number, or so many units of a decimal
+abbrev pub is_neutral : Arithmetic → Datum → Bool
+is_neutral a (int i) = leaves_as_is a i
+is_neutral a _ = false
+
+-- beside such a literal the other operand; on the left only where operands may be exchanged
+abbrev pub arithmetic_given : Arithmetic → BoundTree → BoundTree → Option BoundTree
+arithmetic_given a x y = option_or (only_if (is_literal_of (is_neutral a) y) x) (only_if (is_symmetric a && is_literal_of (is_neutral a) x) y)
+
 -- ---- null operands
 
--- a comparison with a null
+-- a comparison with a null, or a search in one or of one
 abbrev pub comparison_given : LogicalType → BoundTree → BoundTree → Option BoundTree
 comparison_given t x y = only_if (is_literal_of is_null_datum x || is_literal_of is_null_datum y) (literal_node t null)
 
@@ -90,11 +112,29 @@ comparison_given t x y = only_if (is_literal_of is_null_datum x || is_literal_of
 abbrev pub between_given : LogicalType → BoundTree → BoundTree → BoundTree → Option BoundTree
 between_given t x l u = only_if (is_literal_of is_null_datum x || (is_literal_of is_null_datum l && is_literal_of is_null_datum u)) (literal_node t null)
 
+-- ---- searches in lists
+
+-- whether the value is a list without elements
+abbrev pub is_empty_list : Datum → Bool
+is_empty_list (list_of no_datum) = true
+is_empty_list _ = false
+
+-- a search in a null list or of a null, and one of what is never null in a list without elements
+abbrev pub contains_given : LogicalType → BoundTree → BoundTree → Option BoundTree
+contains_given t xs y = option_or (comparison_given t xs y) (only_if (is_literal_of is_empty_list xs && not (is_nullable (node_type y))) (truth_literal false))
+
 -- ---- what a function of one child undoes or knows
 
--- the negation of a negation
+-- the test whether there is a null, or that there is none
+abbrev pub null_test : Bool → BoundTree → BoundTree
+null_test true x = node (truth_type false) is_null (one_bound x)
+null_test false x = node (truth_type false) is_not_null (one_bound x)
+
+-- the negation of a negation, and that of a test for null
 abbrev pub not_given : BoundTree → Option BoundTree
 not_given (node t logical_not xs) = only_one xs
+not_given (node t is_null xs) = option_map (null_test false) (only_one xs)
+not_given (node t is_not_null xs) = option_map (null_test true) (only_one xs)
 not_given _ = None
 
 -- a cast to the type of what is cast
@@ -148,11 +188,13 @@ abbrev pub known_given : BoundTree → Option BoundTree
 known_given (node t (binary and_also) xs) = option_and_then (λ p. logic_given true p.0 p.1) (two_of xs)
 known_given (node t (binary or_else) xs) = option_and_then (λ p. logic_given false p.0 p.1) (two_of xs)
 known_given (node t (binary (compares c)) xs) = option_and_then (λ p. comparison_given t p.0 p.1) (two_of xs)
+known_given (node t (binary (computes a)) xs) = option_and_then (λ p. arithmetic_given a p.0 p.1) (two_of xs)
 known_given (node t (between lower_strict upper_strict) xs) = option_and_then (λ p. between_given t p.0 p.1 p.2) (three_of xs)
 known_given (node t logical_not xs) = option_and_then not_given (only_one xs)
 known_given (node t (cast u) xs) = option_and_then (cast_given t) (only_one xs)
 known_given (node t mask xs) = option_and_then (λ p. mask_given p.0 p.1) (two_of xs)
 known_given (node t (like false false) xs) = option_and_then (λ p. like_given t p.0 p.1) (two_of xs)
+known_given (node t list_contains xs) = option_and_then (λ p. contains_given t p.0 p.1) (two_of xs)
 known_given (node t is_null xs) = option_and_then (test_given false) (only_one xs)
 known_given (node t is_not_null xs) = option_and_then (test_given true) (only_one xs)
 known_given (node t (case_when pairs has_else) xs) = option_and_then (λ p. case_given pairs has_else p.0 p.1 p.2) (first_two xs)
