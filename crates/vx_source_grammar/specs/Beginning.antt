@@ -1,12 +1,12 @@
 -- What begins an operand: the scope root, a field, a value, a function, a CASE, or a bracket.
-use Rattle.std.specs.Prelude.{ℕ, pos, zero, suc, ◌+◌, ◌==◌, if◌then◌else◌, true, false, List, [], ◌∷◌, ◌++◌, Option, Some, None, Result, Ok, Err, codes}
+use Rattle.std.specs.Prelude.{ℕ, pos, zero, suc, ◌+◌, ◌==◌, if◌then◌else◌, Bool, true, false, List, [], ◌∷◌, ◌++◌, Option, Some, None, Result, Ok, Err, codes}
 use Rattle.std.specs.Str.{bytes_eq}
 use Rattle.vx_value.specs.Columns.{Constant}
 use Rattle.vx_value.specs.Types.{Name, LogicalType, int}
 use Rattle.vx_fn.specs.Functions.{Function, literal, get_item, pack, cast, fill_null, zip, is_null, is_not_null, mask, starts_with, byte_length, list_contains}
 use Rattle.vx_tree.specs.Trees.{Tree, root}
 use Rattle.vx_source_types.specs.declared.expectation.Expected.{Expected}
-use Rattle.vx_source_types.specs.declared.expectation.Expected.TheVariants.{Operand, OperandOrParens, Name as AName, FieldValue, FittingType, Function as AFunction, Options, OpenParen as AParen, CloseParen as TheParen, CloseBracket as TheBracket, When as WhenWord}
+use Rattle.vx_source_types.specs.declared.expectation.Expected.TheVariants.{Number, Operand, OperandOrParens, Name as AName, FieldValue, FittingType, Function as AFunction, Options, OpenParen as AParen, CloseParen as TheParen, CloseBracket as TheBracket, When as WhenWord}
 use Rattle.vx_source_types.specs.declared.token.Sign.TheVariants.{OpenParen, CloseParen, OpenBracket, CloseBracket, OpenBrace, Colon, DoubleColon, Dot, Question, Plus, Minus, Dollar}
 use Rattle.vx_source_types.specs.Tokens.{Lexeme, word, quoted, number as numeral, point, text, octets, sign, end, invalid, next}
 use Rattle.vx_source_types.specs.Names.{name_at, same_word}
@@ -18,7 +18,7 @@ use Rattle.vx_source_types.specs.ValueReading.{Drafted, drafted, ValueState}
 use Rattle.vx_source_grammar.specs.declared.words.Keyword.{Keyword}
 use Rattle.vx_source_grammar.specs.declared.words.Keyword.TheVariants.{Not, Null, True, False, Case, When}
 use Rattle.vx_source_grammar.specs.Keywords.{beside, keyword_of}
-use Rattle.vx_source_grammar.specs.OptionReading.{plain_functions, function_read}
+use Rattle.vx_source_grammar.specs.OptionReading.{plain_functions, takes_options, names_function, function_read}
 use Rattle.vx_source_grammar.specs.Closing.{called, node_stands}
 use Rattle.vx_source_grammar.specs.Following.{follows, field_goes}
 use Rattle.vx_source_grammar.specs.Joining.{over}
@@ -105,8 +105,8 @@ begins fs r x = refused x Operand
 -- a number behind a `+` with which an operand begins, which is not below zero
 abbrev pub plus_at : List Frame → ℕ → Lexeme → ExpressionAnswer
 plus_at fs r (numeral false magnitude suffix) = number_begins fs r (numeral false magnitude suffix) (suffixed (numeral false magnitude suffix))
-plus_at fs r (point s) = if next s == 45 then Err Operand else value_begins fs r (point s)
-plus_at fs r x = refused x Operand
+plus_at fs r (point s) = if next s == 45 then Err Number else value_begins fs r (point s)
+plus_at fs r x = refused x Number
 
 -- zero, as a number without a type is read
 abbrev pub zero_read : PlainReading → ℕ → Result Tree Expected
@@ -159,14 +159,23 @@ vortex_at fs r a x = when_read (λ e. field_goes fs r e x (name_at x)) (field_re
 abbrev pub children_begin : List Frame → ℕ → Callee → ExpressionAnswer
 children_begin fs r callee = within r (λ less. goes (in_call callee [] r ∷ fs) first_child less)
 
-abbrev pub id_called : List Frame → ℕ → Option Function → ExpressionAnswer
-id_called fs r (Some f) = children_begin fs r (own_of f)
-id_called fs r None = Err Options
+-- what is missing where the children of such a name begin that no function without options has
+abbrev pub missing : Name → Expected
+missing b = elim (takes_options b) [ true ↦ Options | false ↦ AFunction ]
+
+abbrev pub id_called : List Frame → ℕ → Name → Option Function → ExpressionAnswer
+id_called fs r b (Some f) = children_begin fs r (own_of f)
+id_called fs r b None = Err (missing b)
+
+-- inside the bracket before the options of a function, if there is one
+abbrev pub options_begin : List Frame → ℕ → Name → Bool → ExpressionAnswer
+options_begin fs r b true = within r (λ less. goes fs (in_options b [] 0 less) r)
+options_begin fs r b false = Err AFunction
 
 -- what follows `vortex.` and a name
 abbrev pub id_at : List Frame → ℕ → Name → Name → Lexeme → ExpressionAnswer
-id_at fs r a b (sign OpenParen) = id_called fs r (beside plain_functions b)
-id_at fs r a b (sign OpenBracket) = within r (λ less. goes fs (in_options b [] 0 less) r)
+id_at fs r a b (sign OpenParen) = id_called fs r b (beside plain_functions b)
+id_at fs r a b (sign OpenBracket) = options_begin fs r b (names_function b)
 id_at fs r a b x = when_read (λ e. node_before fs r (get_item b) (e ∷ []) x) (field_read a r)
 
 -- more options, or the bracket behind them; brackets in them count

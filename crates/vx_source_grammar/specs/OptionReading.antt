@@ -1,5 +1,6 @@
 -- What the options of a function say, between the square brackets behind its name.
-use Rattle.std.specs.Prelude.{ℕ, Bool, true, false, ◌&&◌, List, [], ◌∷◌, Option, Some, None, Result, Ok, Err, codes, option_map, option_and_then}
+use Rattle.std.specs.Prelude.{ℕ, Bool, true, false, ◌&&◌, ◌||◌, List, [], ◌∷◌, Option, Some, None, Result, Ok, Err, codes, option_map, option_and_then}
+use Rattle.std.specs.Option.{is_some}
 use Rattle.vx_value.specs.Types.{Name}
 use Rattle.vx_fn.specs.declared.options.FieldSelection.{FieldSelection}
 use Rattle.vx_fn.specs.declared.options.FieldSelection.TheVariants.{Include, Exclude}
@@ -129,6 +130,14 @@ item_read xs = None
 -- the functions with options that are neither a type nor a scalar
 abbrev pub option_readers : List (List ℕ × (List Lexeme → Option Function))
 option_readers = (codes "get_item", item_read) ∷ (codes "pack", pack_read) ∷ (codes "select", select_read) ∷ (codes "binary", operator_read) ∷ (codes "like", like_read) ∷ (codes "between", between_read) ∷ (codes "case_when", case_read) ∷ []
+
+-- whether a function has that name and options
+abbrev pub takes_options : Name → Bool
+takes_options a = same_word a (codes "literal") || (same_word a (codes "cast") || is_some (beside option_readers a))
+
+-- whether a function has that name
+abbrev pub names_function : Name → Bool
+names_function a = is_some (beside plain_functions a) || takes_options a
 
 abbrev pub or_options : Option Function → Result Function Expected
 or_options (Some f) = Ok f

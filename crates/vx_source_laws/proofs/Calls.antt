@@ -59,7 +59,7 @@ plain_again f b es fs (suc r) rest p q k n h =
       more_of =
           leads {t = at fs (at_vortex (codes "vortex")) (suc r)} (first_dot (b ++ 40 ∷ children)) refl
           (leads {t = at fs (at_id (codes "vortex") b) (suc r)} (first_word b (40 ∷ children) p refl) refl
-          (leads {t = at (in_call (own_of f) [] (suc r) ∷ fs) first_child r} (first_open_paren children) (ap (id_called fs (suc r)) q) (own_children f es fs r rest k n (omega arith))));
+          (leads {t = at (in_call (own_of f) [] (suc r) ∷ fs) first_child r} (first_open_paren children) (ap (id_called fs (suc r) b) q) (own_children f es fs r rest k n (omega arith))));
       is_behind = λ x p. refl;
     })
 

@@ -13,7 +13,9 @@ use Rattle.vx_source_types.specs.Reading.{leads}
 use Rattle.vx_source_types.proofs.Reading.{then}
 use Rattle.vx_source_writer.specs.Options.{options_source}
 use Rattle.vx_source_writer.specs.SourceTexts.{sources, full_source}
+use Rattle.vx_source_grammar.specs.Beginning.{options_begin}
 use Rattle.vx_source_grammar.specs.ExpressionReading.{expression_step}
+use Rattle.vx_source_grammar.specs.OptionReading.{names_function}
 use Rattle.vx_source_grammar.specs.States.{any_of, Frame, in_call, first_child, tight, at_word, at_vortex, at_id, in_options, children_due, goes, when_read}
 use Rattle.vx_source_laws.specs.Nesting.{options_nesting, call_nesting, nestings}
 use Rattle.vx_source_laws.specs.SpelledTrees.{IsSpelledFunction}
@@ -47,26 +49,26 @@ name_of starts_with = codes "starts_with"
 name_of byte_length = codes "byte_length"
 name_of list_contains = codes "list_contains"
 
--- it is a word, behind `vortex.` in the function's name
-named_so : (f : Function) → (id_of f ≡ codes "vortex." ++ name_of f) × (is_plain (name_of f) ≡ true)
-named_so (case_when pairs has_else) = (refl, refl)
-named_so (get_item a) = (refl, refl)
-named_so (literal t v) = (refl, refl)
-named_so (pack names n) = (refl, refl)
-named_so (select selection) = (refl, refl)
-named_so fill_null = (refl, refl)
-named_so zip = (refl, refl)
-named_so (binary op) = (refl, refl)
-named_so logical_not = (refl, refl)
-named_so (between lower_strict upper_strict) = (refl, refl)
-named_so (like negated case_insensitive) = (refl, refl)
-named_so is_null = (refl, refl)
-named_so is_not_null = (refl, refl)
-named_so mask = (refl, refl)
-named_so (cast t) = (refl, refl)
-named_so starts_with = (refl, refl)
-named_so byte_length = (refl, refl)
-named_so list_contains = (refl, refl)
+-- it is a word, behind `vortex.` in the function's name, and known
+named_so : (f : Function) → (id_of f ≡ codes "vortex." ++ name_of f) × (is_plain (name_of f) ≡ true) × (names_function (name_of f) ≡ true)
+named_so (case_when pairs has_else) = (refl, refl, refl)
+named_so (get_item a) = (refl, refl, refl)
+named_so (literal t v) = (refl, refl, refl)
+named_so (pack names n) = (refl, refl, refl)
+named_so (select selection) = (refl, refl, refl)
+named_so fill_null = (refl, refl, refl)
+named_so zip = (refl, refl, refl)
+named_so (binary op) = (refl, refl, refl)
+named_so logical_not = (refl, refl, refl)
+named_so (between lower_strict upper_strict) = (refl, refl, refl)
+named_so (like negated case_insensitive) = (refl, refl, refl)
+named_so is_null = (refl, refl, refl)
+named_so is_not_null = (refl, refl, refl)
+named_so mask = (refl, refl, refl)
+named_so (cast t) = (refl, refl, refl)
+named_so starts_with = (refl, refl, refl)
+named_so byte_length = (refl, refl, refl)
+named_so list_contains = (refl, refl, refl)
 
 -- ---- options
 
@@ -116,7 +118,7 @@ full_again f es fs (suc r) rest u k h =
       more_of =
           leads {t = at fs (at_vortex (codes "vortex")) (suc r)} (first_dot (b ++ 91 ∷ bracketed)) refl
           (leads {t = at fs (at_id (codes "vortex") b) (suc r)} (first_word b (91 ∷ bracketed) so.1 refl) refl
-          (leads {t = at fs (in_options b [] 0 r) (suc r)} (first_open_bracket bracketed) refl
+          (leads {t = at fs (in_options b [] 0 r) (suc r)} (first_open_bracket bracketed) (ap (options_begin fs (suc r) b) so.2)
           (then expression_step (options_collected fs (suc r) b [] r options.collected)
           (leads {t = at fs (children_due f) (suc r)} (first_close_bracket (40 ∷ children)) (ap (when_read (λ g. goes fs (children_due g) (suc r))) options.read)
           (leads {t = at (in_call (any_of f) [] (suc r) ∷ fs) first_child r} (first_open_paren children) refl

@@ -1,8 +1,9 @@
-// Functions without options.
+// Functions by their names.
 ghost use Rattle.std.specs.Prelude.{◌≡◌, option_map};
+ghost use Rattle.std.specs.Option.{is_some};
 ghost use Rattle.vx_fn.specs.Views.{function_of};
 ghost use Rattle.vx_source_grammar.specs.Keywords.{beside};
-ghost use Rattle.vx_source_grammar.specs.OptionReading.{plain_functions};
+ghost use Rattle.vx_source_grammar.specs.OptionReading.{names_function, option_readers, plain_functions, takes_options};
 
 use vx_fn::{EmptyOptions, ScalarFnRef};
 use vx_source_types::is_word;
@@ -33,4 +34,31 @@ pub fn plain_function(name: &FieldName) -> Option<ScalarFnRef>
     } else {
         None
     }
+}
+
+/// Whether a function has that name and options.
+pub fn takes_options(name: &FieldName) -> bool
+    ensures { result ≡ takes_options name.now }
+{
+    is_word(name, "literal") || is_word(name, "cast") || has_reader(name)
+}
+
+// Whether a function has that name and options that are neither a scalar nor a type.
+fn has_reader(name: &FieldName) -> bool
+    ensures { result ≡ is_some (beside option_readers name.now) }
+{
+    is_word(name, "get_item")
+        || is_word(name, "pack")
+        || is_word(name, "select")
+        || is_word(name, "binary")
+        || is_word(name, "like")
+        || is_word(name, "between")
+        || is_word(name, "case_when")
+}
+
+/// Whether a function has that name.
+pub fn names_function(name: &FieldName) -> bool
+    ensures { result ≡ names_function name.now }
+{
+    plain_function(name).is_some() || takes_options(name)
 }

@@ -5,6 +5,7 @@ mod context;
 mod frame;
 mod functions;
 mod joining;
+mod misfits;
 mod names;
 mod nodes;
 mod operand;
@@ -20,7 +21,7 @@ mod types;
 
 pub use context::Context;
 pub use frame::{Bracket, Callee, CasePart, Frame, Level, OpenRange};
-pub use functions::plain_function;
+pub use functions::{names_function, plain_function, takes_options};
 pub use joining::{among, reduce};
 pub use nodes::{enclosed, node, node_between, node_over, root};
 pub use operand::{Operand, Places};

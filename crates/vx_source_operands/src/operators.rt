@@ -54,7 +54,7 @@ pub fn comparison(sign: Sign) -> Option<Operator>
     }
 }
 
-fn operator_at(found: &Found) -> Option<Operator>
+pub(crate) fn operator_at(found: &Found) -> Option<Operator>
     ensures { option_map operation_of result ≡ operation_at (lexeme_in found.now) }
 {
     match &found.token {
@@ -128,7 +128,7 @@ pub(crate) fn between(options: &[Found]) -> Option<BetweenOptions>
     })
 }
 
-fn strict(found: &Found) -> Option<StrictComparison>
+pub(crate) fn strict(found: &Found) -> Option<StrictComparison>
     ensures { option_map is_strict result ≡ strict_at (lexeme_in found.now) }
 {
     match &found.token {
@@ -192,7 +192,7 @@ fn is_closing(tokens: &[Found]) -> bool
     matches!(only.token, Token::Sign(Sign::CloseParen))
 }
 
-fn truth(found: &Found) -> Option<bool>
+pub(crate) fn truth(found: &Found) -> Option<bool>
     ensures { result ≡ truth_at (lexeme_in found.now) }
 {
     let Token::Word(name) = &found.token else {

@@ -10,6 +10,7 @@ ghost use Rattle.vx_source_operands.specs.Parts.{read_by, sign_readers};
 
 use crate::context::Context;
 use crate::functions::plain_function;
+use crate::misfits::misfit;
 use crate::names::{item, pack, select};
 use crate::operators::{between, case_when, like, operator};
 use crate::refusals::refusal_in;
@@ -17,7 +18,7 @@ use crate::scalars::scalar;
 use crate::types::dtype;
 use std::alloc::Global;
 use vx_fn::ScalarFnRef;
-use vx_source_types::{Expected, Found, ParseError, expected, is_word};
+use vx_source_types::{Expected, Found, ParseError, is_word};
 use vx_types::FieldName;
 
 /// The function of that name with the options, where the bracket behind the last was found, and with as many brackets allowed
@@ -55,7 +56,7 @@ fn with_options(
     }
     match other(context.alloc, name, options)? {
         Some(scalar_fn) => Ok(scalar_fn),
-        None => Err(expected(context.found, Expected::Options)),
+        None => Err(misfit(name, options, context.found)),
     }
 }
 

@@ -9,6 +9,7 @@ use Rattle.vx_value.specs.Types.{Name, Atomic, truth, number, floating, decimals
 use Rattle.vx_fn.specs.Functions.{Function, literal}
 use Rattle.vx_tree.specs.Trees.{Tree, root, call, Trees, no_tree, tree}
 use Rattle.vx_source_types.specs.Literals.{fitting, plain_type, plain_of, plain_literal, in_range, names_left, point_literal, typed_of, typed_literal}
+use Rattle.vx_source_types.specs.Tokens.{is_whole}
 use Rattle.vx_source_types.specs.Untyped.{has_texts, point_read, typed_value}
 use Rattle.vx_source_types.specs.ValueReading.{Drafted, drafted, pointed}
 use Rattle.vx_source_types.specs.declared.expectation.Expected.{Expected}
@@ -106,7 +107,7 @@ plain_is v (Ok t) g p h = go (fits v t) refl h
 
 alone_is : (d : Drafted) (g : Function) → as_alone (plain_literal d) ≡ Ok g → (t : LogicalType) × (w : Datum) × (g ≡ literal t w) × (value_before d t ≡ Some w) × Fits w t
 alone_is (drafted v names) g h = let p = plain_is v (plain_type v) g refl h in (p.0, v, p.1, p.2, p.3)
-alone_is (pointed s) g h = go (point_literal s f64) refl h
+alone_is (pointed s) g h = whole (is_whole s) h
   where
     f64 : LogicalType
     f64 = ty (atomic (floating F64)) false
@@ -117,6 +118,10 @@ alone_is (pointed s) g h = go (point_literal s f64) refl h
         let f = fitting_is f64 p.0 c p.2 in
         (f64, p.0, the_function (literal c.type c.value) g k ∙ ap (λ (x : Constant). literal x.type x.value) f.0, p.1, f.1)
     go None q k = cc
+
+    whole : (b : Bool) → as_alone (in_range (if b then None else point_literal s f64)) ≡ Ok g → (t : LogicalType) × (w : Datum) × (g ≡ literal t w) × (point_read s t ≡ Some w) × Fits w t
+    whole true k = cc
+    whole false k = go (point_literal s f64) refl k
 
 literal_is : (w : Option LogicalType) (c : Constant) (g : Function) → literal_as w c ≡ Ok g → IsLiteral c g
 literal_is (Some t) c g h = fitted_is (with_nullability (is_null_datum c.value) t) c g h

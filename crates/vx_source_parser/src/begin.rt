@@ -174,8 +174,7 @@ pub(crate) fn begin_plus(
         Token::Point(digits) if !is_below_zero(digits.as_str()) => {
             begin_value(context, frames, start)
         }
-        Token::Invalid(wanted) => Err(expected(context.found, *wanted)),
-        _ => Err(begun_at(start, context.found, Expected::Operand)),
+        _ => Err(refusal(context.found, Expected::Number)),
     }
 }
 

@@ -16,7 +16,7 @@ use crate::begin::begin;
 use crate::brackets::called;
 use vx_fn::{EmptyOptions, PackOptions, ScalarFnRef};
 use vx_source_operands::{
-    Bracket, Callee, Context, ExpressionStep, Frame, Mode, Operand, begun_at, more, node, tight,
+    Bracket, Callee, Context, ExpressionStep, Frame, Mode, Operand, more, node, tight,
 };
 use vx_source_types::{
     Expected, ParseError, Sign, Token, expected, field_name, inside, is_word, refusal,
@@ -75,7 +75,7 @@ fn begin_children(
             frames.push(Frame::Call(callee, Vec::new(context.alloc), bracket))?;
             Ok(more(frames, Mode::FirstChild, less))
         }
-        None => Err(begun_at(bracket.start, context.found, Expected::Function)),
+        None => Err(expected(context.found, Expected::Function)),
     }
 }
 

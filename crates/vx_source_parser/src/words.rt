@@ -1,12 +1,12 @@
 // What follows a word, and a function's name with its options.
-ghost use Rattle.std.specs.Prelude.{[], ◌∷◌, ◌++◌};
+ghost use Rattle.std.specs.Prelude.{[], ◌≡◌, ◌∷◌, ◌++◌};
 ghost use Rattle.vx_fn.specs.Functions.{get_item};
 ghost use Rattle.vx_fn.specs.Views as functions;
 ghost use Rattle.vx_tree.specs.Trees.{root};
 ghost use Rattle.vx_source_types.specs.Views.{lexeme_of};
 ghost use Rattle.vx_source_grammar.specs.Keywords.{beside};
-ghost use Rattle.vx_source_grammar.specs.OptionReading.{plain_functions, function_read};
-ghost use Rattle.vx_source_grammar.specs.Beginning.{case_at, children_at, id_at, id_called, node_before, options_at, vortex_at, word_at};
+ghost use Rattle.vx_source_grammar.specs.OptionReading.{plain_functions, names_function, function_read};
+ghost use Rattle.vx_source_grammar.specs.Beginning.{case_at, children_at, id_at, id_called, missing, node_before, options_at, options_begin, vortex_at, word_at};
 ghost use Rattle.vx_source_grammar.specs.Closing.{keyword_at};
 ghost use Rattle.vx_source_grammar.specs.States.{children_due, goes, in_options, when_read};
 ghost use Rattle.vx_source_operands.specs.Places.{ReadsUpTo};
@@ -21,7 +21,8 @@ use std::alloc::Global;
 use vx_fn::ScalarFnRef;
 use vx_source_grammar::Keyword;
 use vx_source_operands::{
-    Callee, Context, ExpressionStep, Frame, Mode, OptionsSoFar, function_of, more, plain_function,
+    Callee, Context, ExpressionStep, Frame, Mode, OptionsSoFar, function_of, more, names_function,
+    plain_function, takes_options,
 };
 use vx_source_types::{Expected, Found, ParseError, Sign, Token, expected, inside, refusal};
 use vx_types::FieldName;
@@ -95,17 +96,7 @@ pub(crate) fn after_id(
     let (word, name) = names;
     match &context.found.token {
         Token::Sign(Sign::OpenParen) => call_by_id(context, frames, name, bytes.0),
-        Token::Sign(Sign::OpenBracket) => {
-            let less = inside(context.room, context.found)?;
-            let options = OptionsSoFar {
-                name,
-                tokens: Vec::new(context.alloc),
-                opened: 0,
-                room: less,
-                start: bytes.0,
-            };
-            Ok(more(frames, Mode::Options(options), context.room))
-        }
+        Token::Sign(Sign::OpenBracket) => begin_options(context, frames, name, bytes.0),
         _ => {
             let inner = field_of_root(context, word, bytes)?;
             let operand = field(context, name, inner, bytes.1)?;
@@ -121,12 +112,46 @@ fn call_by_id(
     name: FieldName,
     start: usize,
 ) -> Result<ExpressionStep, ParseError>
-    ensures reads { ReadsUpTo context.entry.found.now.at step_of result (id_called (frames_of frames.items) context.entry.room (beside plain_functions name)) }
+    ensures reads { ReadsUpTo context.entry.found.now.at step_of result (id_called (frames_of frames.items) context.entry.room name (beside plain_functions name)) }
 {
     match plain_function(&name) {
         Some(function) => open_children(context, frames, Callee::Own(function), start),
-        None => Err(expected(context.found, Expected::Options)),
+        None => Err(expected(context.found, missing(&name))),
     }
+}
+
+// What is missing behind the name, which no function without options has.
+fn missing(name: &FieldName) -> Expected
+    ensures { result ≡ missing name.now }
+{
+    if takes_options(name) {
+        Expected::Options
+    } else {
+        Expected::Function
+    }
+}
+
+// The square bracket behind `vortex.` and a name.
+fn begin_options(
+    context: Context,
+    frames: Vec<Frame>,
+    name: FieldName,
+    start: usize,
+) -> Result<ExpressionStep, ParseError>
+    ensures reads { ReadsUpTo context.entry.found.now.at step_of result (options_begin (frames_of frames.items) context.entry.room name (names_function name)) }
+{
+    let Context { alloc, room, found } = context;
+    if !names_function(&name) {
+        return Err(expected(found, Expected::Function));
+    }
+    let options = OptionsSoFar {
+        name,
+        tokens: Vec::new(alloc),
+        opened: 0,
+        room: inside(room, found)?,
+        start,
+    };
+    Ok(more(frames, Mode::Options(options), room))
 }
 
 // Another token of the options, or the bracket behind them; brackets in them count.

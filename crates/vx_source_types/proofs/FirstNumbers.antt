@@ -8,7 +8,7 @@ use Rattle.std.proofs.lemmas.Bool.{cond-false, cond-true, and_parts, and_from}
 use Rattle.std.proofs.lemmas.Bool.Decides.{nat_tests}
 use Rattle.std.proofs.lemmas.Fmt.{decimal_by_steps}
 use Rattle.vx_source_types.specs.Characters.{is_letter, is_digit, is_word, is_blank}
-use Rattle.vx_source_types.specs.Tokens.{number, Taken, next, begins_comment, is_hex, word_len, magnitude, more_digits, more_or_same, narrow, digits_go_on, digits_len, is_e, has_point, point_len, exponent_len, sign_len, power_len, fraction_len, number_of, number_behind, number_taken, token_at, first}
+use Rattle.vx_source_types.specs.Tokens.{number, Taken, next, begins_comment, is_hex, word_len, magnitude, more_digits, more_or_same, narrow, digits_go_on, digits_len, is_e, has_point, point_len, exponent_len, sign_len, power_len, fraction_len, whole_lexeme, number_of, number_behind, number_taken, token_at, first}
 use Rattle.vx_dtype.proofs.Choice.{yes, no}
 use Rattle.vx_source_types.proofs.FirstTokens.{no_blank, prefix_of_all}
 
@@ -121,18 +121,18 @@ taken_number negative ds w rest n h m e k f =
     let of_front = take-append_seam w rest in
     let of_rest = drop-append_seam w rest in
     ap (λ len. number_behind negative len bs) digits ∙ cond-true (fraction_len (drop (length ds) bs) == 0) (number_of negative (length ds) bs) _ (ap (λ xs. fraction_len xs == 0) behind ∙ ap (λ k. k == 0) (no_fraction (w ++ rest) e))
-    ∙ ap (λ xs. after (magnitude (Some 0) (take (length ds) bs)) xs) behind
-    ∙ ap (λ xs. after (magnitude (Some 0) xs) (w ++ rest)) front ∙ ap (λ o. after o (w ++ rest)) m
-    ∙ ap (λ len. cut (Some n) len (w ++ rest)) of_word ∙ ap (λ xs. made (Some n) xs (drop (length w) (w ++ rest))) of_front ∙ ap (λ xs. made (Some n) w xs) of_rest
+    ∙ ap (λ xs. after (magnitude (Some 0) (take (length ds) bs)) (take (length ds) bs) xs) behind
+    ∙ ap (λ xs. after (magnitude (Some 0) xs) xs (w ++ rest)) front ∙ ap (λ o. after o ds (w ++ rest)) m
+    ∙ ap (λ len. cut (Some n) len (w ++ rest)) of_word ∙ ap (λ xs. made ds (Some n) xs (drop (length w) (w ++ rest))) of_front ∙ ap (λ xs. made ds (Some n) w xs) of_rest
   where
-    made : Option ℕ → List ℕ → List ℕ → Taken
-    made o xs ys = (number negative o xs, ys)
+    made : List ℕ → Option ℕ → List ℕ → List ℕ → Taken
+    made bytes o xs ys = (whole_lexeme negative bytes o xs, ys)
 
     cut : Option ℕ → ℕ → List ℕ → Taken
-    cut o len xs = (number negative o (take len xs), drop len xs)
+    cut o len xs = made ds o (take len xs) (drop len xs)
 
-    after : Option ℕ → List ℕ → Taken
-    after o xs = (number negative o (take (word_len xs) xs), drop (word_len xs) xs)
+    after : Option ℕ → List ℕ → List ℕ → Taken
+    after o bytes xs = made bytes o (take (word_len xs) xs) (drop (word_len xs) xs)
 
 not_hex : (c : ℕ) (bs : List ℕ) → (next bs == 120) ≡ false → is_hex c bs ≡ false
 not_hex c bs e = go (c == 48) refl where

@@ -11,6 +11,7 @@ use Rattle.vx_value.specs.Fits.{fits}
 use Rattle.vx_value.specs.Types.{Name, truth, number, floating, text, octets, LogicalType, ty, atomic, list, fixed, struct, Fields, no_field, field, Datum, null, bool, int, float, utf8, bytes, list_of, struct_of, Data, no_datum, datum}
 use Rattle.vx_source_types.specs.declared.expectation.Expected.{Expected}
 use Rattle.vx_source_types.specs.declared.expectation.Expected.TheVariants.{NullType, ValueType, Number}
+use Rattle.vx_source_types.specs.Tokens.{is_whole}
 use Rattle.vx_source_types.specs.TypeReading.{ptype_word}
 use Rattle.vx_source_types.specs.Untyped.{typed_value, point_read}
 use Rattle.vx_source_types.specs.ValueReading.{Drafted, drafted, pointed, signed}
@@ -51,10 +52,13 @@ abbrev pub plain_of : Datum → Result LogicalType Expected → Result Constant 
 plain_of v (Ok t) = in_range (fitting t v)
 plain_of v (Err e) = Err e
 
--- a number with a point alone is an f64
+-- a number with a point alone is an f64, and a whole one from 2 ^ 64 on is in no range
+abbrev pub plain_point : List ℕ → Option Constant
+plain_point s = if is_whole s then None else point_literal s (ty (atomic (floating F64)) false)
+
 abbrev pub plain_literal : Drafted → Result Constant Expected
 plain_literal (drafted v names) = plain_of v (plain_type v)
-plain_literal (pointed s) = in_range (point_literal s (ty (atomic (floating F64)) false))
+plain_literal (pointed s) = in_range (plain_point s)
 
 -- a type of a value that may take another one by what it stands beside: one of two, which differ in nullability, or for null
 -- in all else

@@ -1,6 +1,6 @@
 -- The first token of a text.
 use Rattle.std.specs.Prelude.{ℕ, ◌^◌, ◌+◌, ◌*◌, ◌-◌, Bool, true, false, not, ◌||◌, ◌&&◌, List, [], ◌∷◌, ◌++◌, Option, Some, None, Result, Ok, Err, take, drop, ◌==◌, nat_lt, if◌then◌else◌}
-use Rattle.std.specs.List.{filter, prefix_len}
+use Rattle.std.specs.List.{filter, list_all, prefix_len}
 use Rattle.std.specs.Str.{is_utf8}
 use Rattle.hex.specs.Hex.{decode_of}
 use Rattle.hex.specs.declared.error.FromHexError.{FromHexError}
@@ -11,8 +11,8 @@ use Rattle.vx_source_types.specs.declared.token.Sign.TheVariants.{OpenParen, Clo
 use Rattle.vx_source_types.specs.Characters.{is_letter, is_digit, is_word, is_blank}
 
 -- what stands in a text: words, names between backquotes, whole numbers (below zero or not, their magnitude where it is
--- below 2 ^ 64, and the word that follows at once), numbers with a point or an exponent as their text, texts, bytes and
--- signs; the end of the text; and what is none of these
+-- below 2 ^ 64, and the word that follows at once), numbers with a point or an exponent, or whole ones from 2 ^ 64 on, as
+-- their text, texts, bytes and signs; the end of the text; and what is none of these
 pub data Lexeme : Type 0 where
   word : List ℕ → Lexeme
   quoted : List ℕ → Lexeme
@@ -119,12 +119,6 @@ digits_len (b ∷ bs) = elim (digits_go_on b bs) [ true ↦ 1 + digits_len bs | 
 abbrev pub octets_taken : List ℕ → Taken
 octets_taken bs = (octets_lexeme (decode_of (take (word_len bs) bs)), drop (word_len bs) bs)
 
--- a whole number whose digits take that many bytes, and the word behind them
-abbrev pub number_of : Bool → ℕ → List ℕ → Taken
-number_of negative n bs =
-    let rest = drop n bs in
-    (number negative (magnitude (Some 0) (take n bs)) (take (word_len rest) rest), drop (word_len rest) rest)
-
 -- whether a point and a digit are at the front
 abbrev pub has_point : List ℕ → Bool
 has_point bs = next bs == 46 && is_digit (next (drop 1 bs))
@@ -165,6 +159,22 @@ is_in_number b = is_digit b || (b == 46 || (is_e b || is_plus_or_minus b))
 -- the number without underscores, behind a minus where it is below zero
 abbrev pub point_digits : Bool → List ℕ → List ℕ
 point_digits negative bs = let digits = filter is_in_number bs in if negative then 45 ∷ digits else digits
+
+-- whether the text of a number has neither a point nor an exponent
+abbrev pub is_whole : List ℕ → Bool
+is_whole s = list_all (λ b. is_digit b || b == 45) s
+
+-- a whole number of those digits, with its value and the word behind it: the text of one that is too great and has no word
+abbrev pub whole_lexeme : Bool → List ℕ → Option ℕ → List ℕ → Lexeme
+whole_lexeme negative digits None [] = point (point_digits negative digits)
+whole_lexeme negative digits value suffix = number negative value suffix
+
+-- a whole number whose digits take that many bytes, and the word behind them
+abbrev pub number_of : Bool → ℕ → List ℕ → Taken
+number_of negative n bs =
+    let rest = drop n bs in
+    let digits = take n bs in
+    (whole_lexeme negative digits (magnitude (Some 0) digits) (take (word_len rest) rest), drop (word_len rest) rest)
 
 -- a number of so many bytes with a point or an exponent
 abbrev pub point_of : Bool → ℕ → List ℕ → Taken

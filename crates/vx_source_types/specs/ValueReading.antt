@@ -1,17 +1,18 @@
 -- How a value is read, token by token: what is open around it lies on a stack, and the last token says what is due next.
 -- Its type isn't known yet, so the names of its structs are kept in the order in which they stand.
-use Rattle.std.specs.Prelude.{ℕ, Bool, true, false, List, [], ◌∷◌, ◌++◌, Option, Some, None, Result, Ok, Err, codes, option_map, ℤ, pos, neg_ℤ}
+use Rattle.std.specs.Prelude.{ℕ, Bool, true, false, List, [], ◌∷◌, ◌++◌, Option, Some, None, Result, Ok, Err, codes, option_map, ℤ, pos, neg_ℤ, if◌then◌else◌}
 use Rattle.vx_value.specs.Types.{Name, Datum, null, bool, int, utf8, bytes, list_of, struct_of}
 use Rattle.vx_value.specs.Fields.{data_of}
 use Rattle.vx_source_types.specs.declared.expectation.Expected.{Expected}
 use Rattle.vx_source_types.specs.declared.expectation.Expected.TheVariants.{Value, Number, Name as AName, FieldValue, CommaOrCloseBracket, CommaOrCloseBrace}
 use Rattle.vx_source_types.specs.declared.token.Sign.TheVariants.{OpenBracket as BracketOpens, CloseBracket as BracketCloses, OpenBrace as BraceOpens, CloseBrace as BraceCloses, Comma as CommaSign, Colon}
-use Rattle.vx_source_types.specs.Tokens.{Lexeme, word, number as numeral, point, text, octets, sign}
+use Rattle.vx_source_types.specs.Tokens.{Lexeme, word, number as numeral, point, text, octets, sign, is_whole}
 use Rattle.vx_source_types.specs.Names.{name_at, same_word}
 use Rattle.vx_source_types.specs.Reading.{Goes, more, done, Step, refused}
 use Rattle.vx_source_types.specs.TypeReading.{within}
 
--- what has no type yet: a value and the names of its structs; or a number with a point or an exponent, as its text
+-- what has no type yet: a value and the names of its structs; or the text of a number with a point or an exponent, or from
+-- 2 ^ 64 on
 pub data Drafted : Type 0 where
   drafted : Datum → List Name → Drafted
   pointed : List ℕ → Drafted
@@ -81,9 +82,9 @@ simple_value (text s) = Some (utf8 s)
 simple_value (octets bs) = Some (bytes bs)
 simple_value _ = None
 
--- what a token that is no value lacks: a number without a suffix its range, any other a value
+-- what a token that is no value lacks: a whole number its range, any other a value
 abbrev pub value_lacking : Lexeme → Expected
-value_lacking (numeral negative None []) = Number
+value_lacking (point s) = if is_whole s then Number else Value
 value_lacking x = Value
 
 abbrev pub simple_begins : List ValueFrame → List Name → ℕ → Lexeme → Option Datum → ValueAnswer
@@ -97,7 +98,7 @@ no_items r = record { items = []; room = r }
 -- a number with a point stands by itself, and is no part of a value
 abbrev pub point_begins : List ValueFrame → List Name → ℕ → List ℕ → ValueAnswer
 point_begins [] ns r s = value_goes [] (whole_point s) ns r
-point_begins (f ∷ fs) ns r s = Err Value
+point_begins (f ∷ fs) ns r s = Err (value_lacking (point s))
 
 -- the beginning of a value
 abbrev pub value_begins : List ValueFrame → List Name → ℕ → Lexeme → ValueAnswer

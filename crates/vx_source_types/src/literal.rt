@@ -2,11 +2,12 @@
 ghost use Rattle.std.specs.Prelude.{◌≡◌, option_and_then, option_map, MatchResult, Some, Ok, Err};
 ghost use Rattle.vx_value.specs.Types.{int};
 ghost use Rattle.vx_value.specs.Views.{admits_null, type_of, fields_of, value_of, data_view};
-ghost use Rattle.vx_source_types.specs.Literals.{number_literal, ranged, in_range, open_literal, open_type, plain_literal, plain_type, point_literal, typed_literal, typed_of, fitting, names_left, items_left, row_left, behind_name};
+ghost use Rattle.vx_source_types.specs.Literals.{number_literal, ranged, in_range, open_literal, open_type, plain_literal, plain_point, plain_type, point_literal, typed_literal, typed_of, fitting, names_left, items_left, row_left, behind_name};
 ghost use Rattle.vx_source_types.specs.Untyped.{typed_value};
 ghost use Rattle.vx_source_types.specs.ValueViews.{draft_of};
 
 use crate::expectation::Expected;
+use crate::point::is_whole;
 use crate::type_words::ptype_word;
 use crate::typed_value::{point_typed, type_value};
 use crate::value_reader::signed;
@@ -45,11 +46,19 @@ pub fn plain_literal(draft: Draft) -> Result<Scalar, Expected>
             let dtype = plain_type(&value)?;
             in_range(fitting(dtype, value))
         }
-        Draft::Point(digits) => {
-            let dtype = DType::Float(FloatType::F64, Nullability::NonNullable);
-            in_range(point_literal(digits.as_str(), dtype))
-        }
+        Draft::Point(digits) => in_range(plain_point(digits.as_str())),
     }
+}
+
+// The number with a point that stands alone; a whole one from 2^64 on is none.
+fn plain_point(digits: &str) -> Option<Scalar>
+    ensures { result ≡ plain_point digits.now }
+{
+    if is_whole(digits) {
+        return None;
+    }
+    let dtype = DType::Float(FloatType::F64, Nullability::NonNullable);
+    point_literal(digits, dtype)
 }
 
 // The number with a point as a scalar of the type, if it is one of it.

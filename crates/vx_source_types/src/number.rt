@@ -1,7 +1,7 @@
 // Numbers, and bytes.
 ghost use Rattle.std.specs.Prelude.{◌≡◌, ◌≤◌, ℕ, length, drop, IfOk, take, Some};
 ghost use Rattle.hex.specs.Hex.{decode_of};
-ghost use Rattle.vx_source_types.specs.Tokens.{number_taken, digits_len, octets_taken, octets_lexeme, magnitude, more_or_same, more_digits, point, point_digits};
+ghost use Rattle.vx_source_types.specs.Tokens.{number_taken, digits_len, octets_taken, octets_lexeme, magnitude, more_or_same, more_digits, point, point_digits, whole_lexeme};
 ghost use Rattle.vx_source_types.specs.Views.{taken_of, lexeme_of};
 
 use crate::expectation::Expected;
@@ -10,6 +10,7 @@ use crate::token::Token;
 use crate::words::{digits_len, word_len, word_of};
 use hex::FromHexError;
 use std::alloc::{AllocError, Global};
+use vx_dtype::FieldName;
 
 // The number at the front, and how many bytes it takes with the word behind it.
 pub(crate) fn number_at(
@@ -28,15 +29,31 @@ pub(crate) fn number_at(
         let len = digits + fraction;
         return Ok((point_of(alloc, negative, &bytes[..len])?, len));
     }
-    let token = Token::Number {
-        negative,
-        magnitude: magnitude(&bytes[..digits]),
-        suffix: word_of(alloc, rest)?,
-    };
+    let token = whole_of(alloc, negative, &bytes[..digits], word_of(alloc, rest)?)?;
     Ok((token, digits + word_len(rest)))
 }
 
-// The number of those bytes, with a point or an exponent.
+// The whole number of those digits, with the word behind it: its text where it is too great and has none.
+fn whole_of(
+    alloc: Global,
+    negative: bool,
+    digits: &[u8],
+    suffix: FieldName,
+) -> Result<Token, AllocError>
+    ensures { IfOk result (λ t. lexeme_of t ≡ whole_lexeme negative digits.now (magnitude (Some 0) digits.now) suffix) }
+{
+    let magnitude = magnitude(digits);
+    if magnitude.is_none() && suffix.as_str().is_empty() {
+        return point_of(alloc, negative, digits);
+    }
+    Ok(Token::Number {
+        negative,
+        magnitude,
+        suffix,
+    })
+}
+
+// The text of the number of those bytes.
 fn point_of(alloc: Global, negative: bool, bytes: &[u8]) -> Result<Token, AllocError>
     ensures { IfOk result (λ t. lexeme_of t ≡ point (point_digits negative bytes.now)) }
 {

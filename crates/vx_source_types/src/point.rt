@@ -1,6 +1,6 @@
 // What stands in a number besides its whole digits: a point, and an exponent.
 ghost use Rattle.std.specs.Prelude.{◌≡◌, ◌≤◌, ◌+◌, length, true};
-ghost use Rattle.vx_source_types.specs.Tokens.{exponent_len, fraction_len, has_point, is_e, is_in_number, is_plus_or_minus, point_len, power_len, sign_len};
+ghost use Rattle.vx_source_types.specs.Tokens.{exponent_len, fraction_len, has_point, is_e, is_in_number, is_plus_or_minus, is_whole, point_len, power_len, sign_len};
 
 use crate::blanks::next;
 use crate::words::{digits_len, is_digit};
@@ -88,4 +88,17 @@ pub(crate) fn is_in_number(b: u8) -> bool
     ensures { result ≡ is_in_number b }
 {
     is_digit(b) || (b == b'.' || (is_e(b) || is_plus_or_minus(b)))
+}
+
+// Whether the text of a number has neither a point nor an exponent.
+pub(crate) fn is_whole(digits: &str) -> bool
+    ensures { result ≡ is_whole digits.now }
+{
+    let bytes = digits.as_bytes();
+    for b in bytes {
+        if !(is_digit(*b) || *b == b'-') {
+            return false;
+        }
+    }
+    true
 }

@@ -74,8 +74,8 @@ pub enum Token {
         /// The word.
         suffix: FieldName,
     },
-    /// A number with digits on both sides of a point, with an exponent, or with both: its text, single underscores between
-    /// its digits left out.
+    /// A number with digits on both sides of a point, with an exponent, or with both, or a whole one from 2^64 on that no
+    /// word follows: its text, single underscores between its digits left out.
     Point(String),
     /// A text between double or single quotes, of which two stand for one inside it.
     Text(String),

@@ -4,6 +4,7 @@ ghost use Rattle.vx_value.specs.Views.{value_of};
 ghost use Rattle.vx_source_types.specs.Views.{lexeme_of};
 ghost use Rattle.vx_source_types.specs.Names.{name_at};
 ghost use Rattle.vx_source_types.specs.Reading.{ReadsAt, more};
+ghost use Rattle.vx_source_types.specs.Tokens.{point};
 ghost use Rattle.vx_source_types.specs.ValueReading as reading;
 ghost use Rattle.vx_source_types.specs.ValueViews.{frames_of, items_read, mode_of, reader_of, step_of};
 
@@ -11,6 +12,7 @@ use crate::error::ParseError;
 use crate::expectation::Expected;
 use crate::first::Found;
 use crate::names::{field_name, is_word};
+use crate::point::is_whole;
 use crate::state::{expected, inside, refusal};
 use crate::token::{Sign, Token};
 use crate::value_state::{Draft, ItemsSoFar, ValueFrame, ValueMode, ValueReader, ValueStep};
@@ -106,7 +108,7 @@ fn begin_point(around: Around, digits: &String, found: &Found) -> Result<ValueSt
     ensures { ReadsAt found.now.at step_of result (reading.point_begins (frames_of around.frames.items) around.names.items around.room (string_bytes digits.now)) }
 {
     if !around.frames.is_empty() {
-        return Err(expected(found, Expected::Value));
+        return Err(expected(found, point_lacking(digits.as_str())));
     }
     Ok(more(around, ValueMode::Point(digits.clone()?)))
 }
@@ -131,17 +133,24 @@ fn begin_simple(alloc: Global, around: Around, found: &Found) -> Result<ValueSte
     }
 }
 
-// What a token that is no value lacks: a number without a suffix is 2^64 or more.
+// What a token that is no value lacks.
 fn lacking(token: &Token) -> Expected
     ensures { result ≡ reading.value_lacking (lexeme_of token.now) }
 {
     match token {
-        Token::Number {
-            magnitude: None,
-            suffix,
-            ..
-        } if suffix.as_str().is_empty() => Expected::Number,
+        Token::Point(digits) => point_lacking(digits.as_str()),
         _ => Expected::Value,
+    }
+}
+
+// What the text of a number lacks as a part of a value: a whole one is 2^64 or more.
+fn point_lacking(digits: &str) -> Expected
+    ensures { result ≡ reading.value_lacking (point digits.now) }
+{
+    if is_whole(digits) {
+        Expected::Number
+    } else {
+        Expected::Value
     }
 }
 

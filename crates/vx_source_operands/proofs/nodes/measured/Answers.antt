@@ -1,4 +1,4 @@
-use Rattle.std.proofs.Common.{rules, ◌≡◌, ◌∷◌, ◌++◌, [], ◌+◌, refl, sym, ap, subst, arith}
+use Rattle.std.proofs.Common.{rules, ◌≡◌, ◌+◌, sym, ap, subst}
 use Rattle.vx_fn.specs.Views.{function_of}
 use Rattle.vx_tree.specs.Trees.{call}
 use Rattle.vx_tree.specs.Views.{tree_of, trees_of}
