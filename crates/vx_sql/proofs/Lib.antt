@@ -1,5 +1,6 @@
 pub mod Seen
 pub mod Texts
+pub mod Items
 pub mod Spelled
 pub mod NodeReasons
 pub mod Walked

@@ -3,6 +3,7 @@ pub mod Children
 pub mod Quotes
 pub mod Words
 pub mod Zeros
+pub mod Lists
 pub mod Patterns
 pub mod Literals
 pub mod Calculations

@@ -1,12 +1,12 @@
 -- Literals.
-use Rattle.std.specs.Prelude.{ℕ, Bool, true, false, ℤ, pos, negsuc, List, [], ◌++◌, Option, codes, if◌then◌else◌}
+use Rattle.std.specs.Prelude.{ℕ, Bool, true, false, ℤ, pos, negsuc, List, [], ◌∷◌, ◌++◌, Option, codes, if◌then◌else◌}
 use Rattle.std.specs.Fmt.{decimal, signed_decimal}
 use Rattle.std.specs.List.{flat_map}
 use Rattle.vx_dtype.specs.declared.dtype.PType.{PType}
 use Rattle.vx_dtype.specs.declared.dtype.PType.TheVariants.{I32}
 use Rattle.vx_dtype.specs.declared.float_type.FloatType.{FloatType}
 use Rattle.vx_dtype.specs.declared.timestamp_type.TimeUnit.{TimeUnit}
-use Rattle.vx_value.specs.Types.{Name, number, floating, decimals, date, timestamp, LogicalType, ty, atomic, Datum, null, bool, int, float, utf8, bytes, list_of, struct_of}
+use Rattle.vx_value.specs.Types.{Name, number, floating, decimals, date, timestamp, LogicalType, ty, atomic, Datum, null, bool, int, float, utf8, bytes, list_of, struct_of, Data, no_datum, datum}
 use Rattle.vx_floats.specs.declared.float.Float.{Float}
 use Rattle.vx_floats.specs.Texts.{float_text}
 use Rattle.vx_literals.specs.Days.{day_text}
@@ -107,3 +107,8 @@ literal_sql d (int i) t = []
 literal_sql d (float x) t = []
 literal_sql d (list_of vs) t = []
 literal_sql d (struct_of vs) t = []
+
+-- values of that type, one after another
+abbrev pub items_sql : Dialect → Data → LogicalType → List (List ℕ)
+items_sql d no_datum t = []
+items_sql d (datum v vs) t = literal_sql d v t ∷ items_sql d vs t

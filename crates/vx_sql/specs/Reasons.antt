@@ -1,5 +1,5 @@
 -- Why a node has no SQL text.
-use Rattle.std.specs.Prelude.{ℕ, ℤ, pos, Bool, false, not, ◌==◌, ◌&&◌, List, [], ◌∷◌, Option, Some, None, length, if◌then◌else◌, nat_lt}
+use Rattle.std.specs.Prelude.{ℕ, ℤ, pos, Bool, false, not, ◌==◌, ◌&&◌, ◌||◌, List, [], ◌∷◌, Option, Some, None, length, if◌then◌else◌, nat_lt}
 use Rattle.std.specs.Int.{int_div_euclid}
 use Rattle.std.specs.List.{list_any, count_by}
 use Rattle.std.specs.Option.{option_or, is_some}
@@ -8,7 +8,8 @@ use Rattle.vx_floats.specs.Texts.{has_value_text}
 use Rattle.vx_literals.specs.Days.{civil_at}
 use Rattle.vx_literals.specs.Instants.{units_a_day}
 use Rattle.vx_source_types.specs.Names.{same_word}
-use Rattle.vx_value.specs.Types.{Name, number, floating, date, timestamp, LogicalType, ty, atomic, Datum, null, bool, int, float, utf8, bytes, list_of, struct_of}
+use Rattle.vx_value.specs.Columns.{Constant}
+use Rattle.vx_value.specs.Types.{Name, number, floating, date, timestamp, LogicalType, ty, atomic, Datum, null, bool, int, float, utf8, bytes, list_of, struct_of, Data, no_datum, datum}
 use Rattle.vx_floats.specs.declared.arithmetic.Arithmetic.{Arithmetic}
 use Rattle.vx_fn.specs.Functions.{Function, case_when, get_item, literal, pack, select, fill_null, zip, Operation, compares, and_also, or_else, computes, binary, logical_not, between, like, is_null, is_not_null, mask, cast, starts_with, byte_length, list_contains, arity_of, is_atomic}
 use Rattle.vx_tree.specs.Nodes.{bound_at, bound_count_of}
@@ -22,7 +23,8 @@ use Rattle.vx_sql.specs.Children.{passes, has_atomic_first, names_first, literal
 use Rattle.vx_sql.specs.Dialects.{has_floats, has_type, makes_structs}
 use Rattle.vx_sql.specs.Quotes.{is_escaped}
 use Rattle.vx_sql.specs.Words.{is_misread}
-use Rattle.vx_sql.specs.Zeros.{mixes_zeros, mixes_zeros_between}
+use Rattle.vx_sql.specs.Lists.{item_type, items_in, no_zeros, literal_first}
+use Rattle.vx_sql.specs.Zeros.{is_float, no_zero_at, mixes_zeros, mixes_zeros_between}
 
 -- the reason where the test holds
 abbrev pub because : Bool → Reason → Option Reason
@@ -113,6 +115,27 @@ operation_reason d t (computes a) bs = because (not (has_arithmetic d a t)) Unkn
 abbrev pub range_reason : BoundTrees → Option Reason
 range_reason bs = because (mixes_zeros_between bs) FloatOrder
 
+-- whether the second child may be -0 where an element is 0, or 0 where one is -0
+abbrev pub mixes_zeros_in : LogicalType → Data → BoundTrees → Bool
+mixes_zeros_in t vs bs = is_float t && not (no_zero_at bs 1 || no_zeros vs)
+
+-- the first reason of one of these literals
+abbrev pub items_reason : LogicalType → Data → Option Reason
+items_reason t no_datum = None
+items_reason t (datum v vs) = option_or (literal_reason t v) (items_reason t vs)
+
+-- why a value isn't looked up among such: -0 is told from 0, as no engine does, and each has a text
+abbrev pub list_reason : LogicalType → Data → BoundTrees → Option Reason
+list_reason t vs bs = option_or (because (mixes_zeros_in t vs bs) FloatOrder) (items_reason t vs)
+
+-- it is looked up in a literal list, or in a null one
+abbrev pub literal_list_reason : Option Constant → BoundTrees → Option Reason
+literal_list_reason None bs = Some UnknownFunction
+literal_list_reason (Some c) bs = list_reason (item_type c.type) (items_in c.value) bs
+
+abbrev pub membership_reason : BoundTrees → Option Reason
+membership_reason bs = literal_list_reason (literal_first bs) bs
+
 abbrev pub function_reason : Dialect → LogicalType → Function → BoundTrees → Option Reason
 function_reason d t (get_item a) bs = name_reason d (names_first bs) a
 function_reason d t (literal u v) bs = literal_reason u v
@@ -131,7 +154,7 @@ function_reason d t mask bs = None
 function_reason d t (cast u) bs = None
 function_reason d t starts_with bs = pattern_reason bs
 function_reason d t byte_length bs = None
-function_reason d t list_contains bs = Some UnknownFunction
+function_reason d t list_contains bs = membership_reason bs
 
 -- why values of the type have no text: the engine orders floating-point numbers otherwise, or has no such values
 abbrev pub type_reason : Dialect → LogicalType → Option Reason

@@ -1,10 +1,11 @@
 -- The SQL text of a bound tree over the columns of its scope.
 use Rattle.std.specs.Prelude.{ℕ, Bool, true, false, ◌&&◌, ◌||◌, ◌==◌, List, [], ◌∷◌, ◌++◌, codes, get_or, if◌then◌else◌, Option, Some, None}
 use Rattle.vx_value.specs.Columns.{Constant}
-use Rattle.vx_value.specs.Types.{Name, number, LogicalType, ty, atomic, Datum, utf8}
+use Rattle.vx_value.specs.Types.{Name, number, LogicalType, ty, atomic, Datum, utf8, list_of, Data}
 use Rattle.vx_floats.specs.declared.arithmetic.Arithmetic.{Arithmetic}
-use Rattle.vx_fn.specs.Functions.{equal, not_equal, greater, greater_or_equal, less, less_or_equal, Comparison, Operation, compares, and_also, or_else, computes, Function, case_when, get_item, literal, pack, select, fill_null, zip, binary, logical_not, between, like, is_null, is_not_null, mask, cast, starts_with, byte_length, list_contains, arity_of}
+use Rattle.vx_fn.specs.Functions.{equal, not_equal, greater, greater_or_equal, less, less_or_equal, Comparison, Operation, compares, and_also, or_else, computes, Function, case_when, get_item, literal, pack, select, fill_null, zip, binary, logical_not, between, like, is_null, is_not_null, mask, cast, starts_with, byte_length, list_contains, arity_of, is_text}
 use Rattle.vx_fn.specs.Texts.{with_commas, pairs_sql, operator_sql, bound_text}
+use Rattle.vx_fn.specs.Values.{has_null}
 use Rattle.vx_tree.specs.Nodes.{bound_at, bound_count_of}
 use Rattle.vx_tree.specs.Trees.{BoundTree, scope, node, BoundTrees, no_bound, bound}
 use Rattle.vx_tree.specs.declared.bound.BoundExpression.{BoundExpression}
@@ -16,7 +17,8 @@ use Rattle.vx_sql.specs.Children.{is_row, has_text_first, has_string_first, has_
 use Rattle.vx_sql.specs.Dialects.{collation}
 use Rattle.vx_sql.specs.Quotes.{name_sql, text_sql}
 use Rattle.vx_sql.specs.Patterns.{has_globs, pattern_sql, beginning_sql}
-use Rattle.vx_sql.specs.Literals.{literal_sql, null_sql}
+use Rattle.vx_sql.specs.Literals.{literal_sql, null_sql, truth_sql, items_sql}
+use Rattle.vx_sql.specs.Lists.{item_type, has_items, literal_first}
 use Rattle.vx_sql.specs.Calculations.{arithmetic_sql}
 
 -- ---- operators
@@ -218,6 +220,53 @@ behind_length ClickHouse = codes "))"
 abbrev pub length_sql : Dialect → List ℕ → List ℕ
 length_sql d c = before_length d ++ (c ++ behind_length d)
 
+-- ---- lists
+
+-- a text among values of that type
+abbrev pub in_sql : Dialect → LogicalType → Data → List ℕ → List ℕ
+in_sql d t vs x = codes "(" ++ (compared_sql d (is_text t) x ++ (codes " IN (" ++ (with_commas (items_sql d vs t) ++ codes "))")))
+
+-- whether the engine's IN is never null: ClickHouse's is 0 of a null, and of what is none of the others where one is null
+abbrev pub forgets_nulls : Dialect → Bool
+forgets_nulls Postgres = false
+forgets_nulls Sqlite = false
+forgets_nulls DuckDb = false
+forgets_nulls Spark = false
+forgets_nulls ClickHouse = true
+
+-- there: a text among values of which one is null, which is true or null
+abbrev pub in_nulls_sql : Dialect → LogicalType → Data → List ℕ → List ℕ
+in_nulls_sql d t vs x = codes "nullIf(" ++ (in_sql d t vs x ++ codes ", 0)")
+
+-- there: a text that may be null among values, by a function, so that it is written once: it equals itself where it isn't null
+abbrev pub null_in_sql : Dialect → LogicalType → Data → List ℕ → List ℕ
+null_in_sql d t vs x = codes "arrayMap(a -> (a IN (" ++ (with_commas (items_sql d vs t) ++ (codes ")) = (a = a), [" ++ (x ++ codes "])[1]")))
+
+-- a text among some values, of which one may be null, as it may be, and that may be forgotten
+abbrev pub in_some_sql : Dialect → LogicalType → Data → Bool → Bool → List ℕ → List ℕ
+in_some_sql d t vs true forgets x = in_nulls_sql d t vs x
+in_some_sql d t vs false true x = null_in_sql d t vs x
+in_some_sql d t vs false false x = in_sql d t vs x
+
+-- a text among no values, for which there is no IN: false where it isn't null
+abbrev pub in_none_sql : Dialect → List ℕ → List ℕ
+in_none_sql d x = codes "CASE WHEN (" ++ (x ++ (codes " IS NOT NULL) THEN " ++ (truth_sql d false ++ codes " END")))
+
+-- a text, which may be null, among any values
+abbrev pub among_sql : Dialect → LogicalType → Data → Bool → List ℕ → List ℕ
+among_sql d t vs admits_null x =
+    if has_items vs then in_some_sql d t vs (forgets_nulls d && has_null vs) (forgets_nulls d && admits_null) x else in_none_sql d x
+
+-- a text, which may be null, in a list of that type; null of the type before it if the list is
+abbrev pub in_list_sql : Dialect → LogicalType → LogicalType → Datum → Bool → List ℕ → List ℕ
+in_list_sql d t u (list_of vs) admits_null x = among_sql d (item_type u) vs admits_null x
+in_list_sql d t u _ admits_null x = null_sql d t
+
+-- a text, which may be null, in the literal list that is the first child
+abbrev pub membership_sql : Dialect → LogicalType → Option Constant → Bool → List ℕ → List ℕ
+membership_sql d t None admits_null x = []
+membership_sql d t (Some c) admits_null x = in_list_sql d t c.type c.value admits_null x
+
 -- ---- choices
 
 -- the value where the condition is true, and what follows
@@ -282,7 +331,7 @@ own_sql d t mask bs cs = choice_sql (get_or cs 1 []) (get_or cs 0 []) (codes " E
 own_sql d t (cast u) bs cs = get_or cs 0 []
 own_sql d t starts_with bs cs = match_sql d false false (get_or cs 0 []) (second_beginning d bs)
 own_sql d t byte_length bs cs = length_sql d (get_or cs 0 [])
-own_sql d t list_contains bs cs = []
+own_sql d t list_contains bs cs = membership_sql d t (literal_first bs) (admits_null_at bs 1) (get_or cs 1 [])
 
 -- the text of a node; over another number of children it has none
 abbrev pub node_sql : Dialect → LogicalType → Function → BoundTrees → List (List ℕ) → List ℕ

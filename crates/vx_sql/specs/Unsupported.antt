@@ -1,7 +1,7 @@
 -- Where in a tree the first node is that has no SQL text.
-use Rattle.std.specs.Prelude.{◌≡◌, ℕ, ◌+◌, Bool, false, List, [], ◌∷◌, ◌++◌, Option, Some, None, option_and_then, Result, Ok, Err, if◌then◌else◌}
+use Rattle.std.specs.Prelude.{◌≡◌, ℕ, ◌+◌, ◌==◌, Bool, false, List, [], ◌∷◌, ◌++◌, Option, Some, None, option_and_then, Result, Ok, Err, if◌then◌else◌}
 use Rattle.std.specs.Option.{option_map, option_or}
-use Rattle.vx_fn.specs.Functions.{Function, get_item}
+use Rattle.vx_fn.specs.Functions.{Function, get_item, list_contains}
 use Rattle.vx_tree.specs.Trees.{BoundTree, scope, node, BoundTrees, no_bound, bound}
 use Rattle.vx_sql.specs.declared.dialect.Dialect.{Dialect}
 use Rattle.vx_sql.specs.declared.unsupported.Reason.{Reason}
@@ -25,12 +25,23 @@ abbrev pub is_column : Function → BoundTrees → Bool
 is_column (get_item a) bs = is_row bs
 is_column _ bs = false
 
+-- the first child that is asked for a text: a list that values are looked up in has none, as the node's own has its elements
+abbrev pub first_asked : Function → ℕ
+first_asked list_contains = 1
+first_asked _ = 0
+
 -- the first node without a text: the tree's own, then the children's from left to right
 abbrev mutual
   pub first_unsupported : Dialect → BoundTree → Option Refused
   first_unsupported d (scope t) = Some ([], Row)
   first_unsupported d (node t f bs) =
-      option_or (option_map (λ reason. ([], reason)) (own_reason d t f bs)) (if is_column f bs then None else first_unsupported_from d 0 bs)
+      option_or (option_map (λ reason. ([], reason)) (own_reason d t f bs)) (if is_column f bs then None else first_unsupported_past d (first_asked f) bs)
+
+  -- the children from the first that is asked on
+  pub first_unsupported_past : Dialect → ℕ → BoundTrees → Option Refused
+  first_unsupported_past d first no_bound = None
+  first_unsupported_past d first (bound b bs) =
+      option_or (if first == 0 then option_map (below 0) (first_unsupported d b) else None) (first_unsupported_from d 1 bs)
 
   pub first_unsupported_from : Dialect → ℕ → BoundTrees → Option Refused
   first_unsupported_from d i no_bound = None

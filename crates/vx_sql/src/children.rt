@@ -81,7 +81,8 @@ pub(crate) fn admits_null_at(children: &[BoundExpression], index: usize) -> bool
     }
 }
 
-fn is_text(dtype: &DType) -> bool
+/// Whether values of the type are texts.
+pub(crate) fn is_text(dtype: &DType) -> bool
     ensures { result ≡ is_text (type_of dtype.now) }
 {
     matches!(dtype, DType::Utf8(_))

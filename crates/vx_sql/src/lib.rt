@@ -6,6 +6,7 @@ mod children;
 mod conversion;
 mod dialect;
 mod laws;
+mod lists;
 mod literals;
 mod names;
 mod patterns;

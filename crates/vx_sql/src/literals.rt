@@ -5,16 +5,17 @@ ghost use Rattle.std.specs.List.{flat_map};
 ghost use Rattle.vx_dtype.specs.Timestamps.{zone_name};
 ghost use Rattle.vx_value.specs.Types.{LogicalType};
 ghost use Rattle.vx_value.specs.ValueTexts.{hex_byte};
-ghost use Rattle.vx_value.specs.Views.{type_of, value_of};
+ghost use Rattle.vx_value.specs.Views.{type_of, value_of, data_view};
+ghost use Rattle.vx_value.specs.Texts.{with_commas};
 ghost use Rattle.vx_sql.specs.Dialects.{cast_text, decimal_type, type_word};
-ghost use Rattle.vx_sql.specs.Literals.{literal_sql, null_sql, truth_sql, is_by_itself, number_sql, float_sql, decimal_sql, day_sql, instant_sql, octets_sql, byte_escape};
+ghost use Rattle.vx_sql.specs.Literals.{literal_sql, null_sql, truth_sql, is_by_itself, number_sql, float_sql, decimal_sql, day_sql, instant_sql, octets_sql, byte_escape, items_sql};
 
 use crate::Dialect;
 use crate::quotes::write_text;
 use crate::types::{float_word, number_word, write_decimal_type, write_instant_type, write_type};
 use std::fmt;
 use std::fmt::{Display, Formatter, Write};
-use vx_dtype::{DecimalType, FloatType, TimestampType};
+use vx_dtype::{DecimalType, FloatType, TimestampType, separator};
 use vx_literals::{write_day, write_decimal, write_instant};
 use vx_types::{DType, Float, PType, Scalar, Value};
 
@@ -57,6 +58,22 @@ fn write_value<W: Write>(
     }
 }
 
+/// Writes values of that type, with commas between them.
+pub(crate) fn write_items<W: Write>(
+    dialect: Dialect,
+    items: &[Value],
+    dtype: &DType,
+    f: &mut Formatter<W>,
+) -> fmt::Result
+    ensures { WritesOnOk W.write_str_gives f.old result (with_commas (items_sql dialect (data_view items.now) (type_of dtype.now))) f.new }
+{
+    for i in 0..items.len() {
+        f.write_str(separator(i))?;
+        write_value(dialect, &items[i], dtype, f)?;
+    }
+    Ok(())
+}
+
 /// Writes a null of that type, which ClickHouse has to be told that it may be null.
 pub(crate) fn write_null<W: Write>(
     dialect: Dialect,
@@ -83,7 +100,8 @@ fn null_words(dialect: Dialect) -> (&'static str, &'static str)
     }
 }
 
-fn truth_word(dialect: Dialect, b: bool) -> &'static str
+/// A truth value.
+pub(crate) fn truth_word(dialect: Dialect, b: bool) -> &'static str
     ensures { result.now ≡ truth_sql dialect b }
 {
     match dialect {

@@ -1,7 +1,7 @@
 // Why a node has no SQL text.
 ghost use Rattle.std.specs.Prelude.{◌≡◌, not};
 ghost use Rattle.std.specs.Option.{is_some};
-ghost use Rattle.vx_value.specs.Views.{type_of};
+ghost use Rattle.vx_value.specs.Views.{type_of, value_of};
 ghost use Rattle.vx_fn.specs.Views.{function_of, operation_of};
 ghost use Rattle.vx_tree.specs.Nodes.{bound_at};
 ghost use Rattle.vx_tree.specs.Views.{bounds_of};
@@ -13,6 +13,7 @@ ghost use Rattle.vx_sql.specs.Reasons.{has_nul, is_cut, same_name, spelling_reas
 use crate::Dialect;
 use crate::calculations::Check;
 use crate::children::{child_at, has_atomic_first, is_atomic, literal_in};
+use crate::lists::membership_reason;
 use crate::types::{has_floats, has_type, makes_structs};
 use crate::unsupported::Reason;
 use crate::words::is_misread;
@@ -21,7 +22,7 @@ use vx_floats::has_value_text;
 use vx_fn::{Operator, ScalarFnRef};
 use vx_literals::{has_day_text, has_instant_text};
 use vx_tree::BoundExpression;
-use vx_types::{Arithmetic, DType, FieldName, Scalar, Value};
+use vx_types::{Arithmetic, DType, FieldName, Value};
 
 /// Why a node of that type over these children has no text: for their number, for its type, or for its
 /// function.
@@ -63,9 +64,10 @@ fn function_reason(
 {
     match scalar_fn {
         ScalarFnRef::GetItem(name) => name_reason(dialect, names_first(children), name),
-        ScalarFnRef::Literal(scalar) => literal_reason(scalar),
+        ScalarFnRef::Literal(scalar) => literal_reason(scalar.dtype(), scalar.value()),
         ScalarFnRef::Pack(options) => pack_reason(dialect, options.names.as_slice()),
-        ScalarFnRef::Select(_) | ScalarFnRef::ListContains(_) => Some(Reason::UnknownFunction),
+        ScalarFnRef::Select(_) => Some(Reason::UnknownFunction),
+        ScalarFnRef::ListContains(_) => membership_reason(children),
         ScalarFnRef::FillNull(_) => fill_reason(children),
         ScalarFnRef::Like(_) | ScalarFnRef::StartsWith(_) => pattern_reason(children),
         ScalarFnRef::Binary(operator) => operation_reason(dialect, dtype, *operator, children),
@@ -182,16 +184,17 @@ pub fn column_names(dtype: &DType) -> &[FieldName]
     }
 }
 
-// A literal is of a type without parts, a floating-point number has a text of its value, and no text has a NUL.
-fn literal_reason(scalar: &Scalar) -> Option<Reason>
-    ensures { result ≡ literal_reason scalar.now.type scalar.now.value }
+/// Why such a literal has no text: one is of a type without parts, a floating-point number has a text of its value, and
+/// no text has a NUL.
+pub(crate) fn literal_reason(dtype: &DType, value: &Value) -> Option<Reason>
+    ensures { result ≡ literal_reason (type_of dtype.now) (value_of value.now) }
 {
-    if !is_atomic(scalar.dtype()) {
+    if !is_atomic(dtype) {
         return Some(Reason::NestedLiteral);
     }
-    match scalar.value() {
+    match value {
         Value::Utf8(text) if has_nul(text.as_str()) => Some(Reason::Nul),
-        Value::Int(number) => number_reason(scalar.dtype(), *number),
+        Value::Int(number) => number_reason(dtype, *number),
         Value::Float(number) if !has_value_text(*number) => Some(Reason::FloatBits),
         _ => None,
     }

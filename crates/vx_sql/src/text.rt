@@ -8,6 +8,7 @@ ghost use Rattle.vx_tree.specs.Views.{bound_of};
 ghost use Rattle.vx_sql.specs.SqlTexts.{sql, sqls_in, trees_in, own_sql};
 
 mod choices;
+mod lists;
 mod operators;
 mod structs;
 mod tests;
@@ -16,6 +17,7 @@ mod texts;
 use crate::Dialect;
 use crate::literals::write_literal;
 use choices::{write_case, write_fill, write_mask, write_zip};
+use lists::write_membership;
 use operators::{write_between, write_binary, write_not};
 use std::fmt;
 use std::fmt::{Display, Formatter, Write};
@@ -97,7 +99,7 @@ fn write_own<W: Write>(
         ScalarFnRef::Cast(_) => write_child(children, 0, f),
         ScalarFnRef::StartsWith(_) => write_beginning(children, f),
         ScalarFnRef::ByteLength(_) => write_length(children, f),
-        ScalarFnRef::ListContains(_) => Ok(()),
+        ScalarFnRef::ListContains(_) => write_membership(dtype, children, f),
     }
 }
 

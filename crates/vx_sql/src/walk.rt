@@ -1,8 +1,8 @@
 // The first node of a tree without an SQL text.
-ghost use Rattle.std.specs.Prelude.{◌≡◌, Result, Ok, IfOk};
+ghost use Rattle.std.specs.Prelude.{◌≡◌, Result, Ok, IfOk, drop};
 ghost use Rattle.vx_fn.specs.Views.{function_of};
 ghost use Rattle.vx_tree.specs.Views.{bound_of, bounds_of};
-ghost use Rattle.vx_sql.specs.Unsupported.{is_column, first_unsupported, first_unsupported_from, refused_of, LeadsToUnsupported};
+ghost use Rattle.vx_sql.specs.Unsupported.{is_column, first_asked, first_unsupported, first_unsupported_from, refused_of, LeadsToUnsupported};
 
 use crate::Dialect;
 use crate::children::is_row;
@@ -52,18 +52,20 @@ fn look(
     if is_column(scalar_fn, children) {
         return Ok(None);
     }
-    look_below(children, dialect, path)
+    look_below(children, first_asked(scalar_fn), dialect, path)
 }
 
+// The same of the children from that index on.
 #[cycle(unsupported)]
 fn look_below(
     children: &[BoundExpression],
+    first: usize,
     dialect: Dialect,
     path: &mut Vec<usize>,
 ) -> Result<Option<Reason>, AllocError>
-    ensures { IfOk result (LeadsToUnsupported path.old.items (first_unsupported_from dialect 0 (bounds_of children.now)) path.new.items) }
+    ensures { IfOk result (LeadsToUnsupported path.old.items (first_unsupported_from dialect first (bounds_of (drop first children.now))) path.new.items) }
 {
-    for i in 0..children.len() {
+    for i in first..children.len() {
         path.push(i)?;
         if let Some(reason) = look(&children[i], dialect, path)? {
             return Ok(Some(reason));
@@ -78,4 +80,15 @@ fn is_column(scalar_fn: &ScalarFnRef, children: &[BoundExpression]) -> bool
     ensures { result ≡ is_column (function_of scalar_fn.now) (bounds_of children.now) }
 {
     matches!(scalar_fn, ScalarFnRef::GetItem(_)) && is_row(children)
+}
+
+// The first child that is asked for a text: a list that values are looked up in has none, as the node's own has its
+// elements.
+fn first_asked(scalar_fn: &ScalarFnRef) -> usize
+    ensures { result ≡ first_asked (function_of scalar_fn.now) }
+{
+    match scalar_fn {
+        ScalarFnRef::ListContains(_) => 1,
+        _ => 0,
+    }
 }

@@ -33,8 +33,8 @@ fn has_float_first(children: &[BoundExpression]) -> bool
     }
 }
 
-// Whether the child at that index is a literal, and neither 0 nor -0.
-fn no_zero_at(children: &[BoundExpression], index: usize) -> bool
+/// Whether the child at that index is a literal, and neither 0 nor -0.
+pub(crate) fn no_zero_at(children: &[BoundExpression], index: usize) -> bool
     ensures { result ≡ no_zero_at (bounds_of children.now) index }
 {
     match child_at(children, index) {
@@ -46,13 +46,15 @@ fn no_zero_at(children: &[BoundExpression], index: usize) -> bool
     }
 }
 
-fn is_float(dtype: &DType) -> bool
+/// Whether values of the type are floating-point numbers.
+pub(crate) fn is_float(dtype: &DType) -> bool
     ensures { result ≡ is_float (type_of dtype.now) }
 {
     matches!(dtype, DType::Float(..))
 }
 
-fn no_zero(value: &Value) -> bool
+/// Whether the value is neither 0 nor -0.
+pub(crate) fn no_zero(value: &Value) -> bool
     ensures { result ≡ no_zero (value_of value.now) }
 {
     match value {

@@ -3,12 +3,12 @@
 // `T`, `N`, `S`, `B`, `E` and `P` stand for expressions that give a truth value, a number, a text, bytes, a measure and a
 // pair, `X` for what the node gives, and `M` for a mask. The numbers of a row are of one type, which `#n` names, and so are
 // its measures, by `#e`. `#N`, `#S`, `#B`, `#E`, `#T` and `#X` stand for literals, null among them, and `!N`, `!S`, `!B`,
-// `!E` and `!T` for others than null.
+// `!E` and `!T` for others than null. `*N`, `*S`, `*B`, `*E` and `*T` stand for literal lists of them, with nulls at times.
 use crate::kinds::{Kind, Measure};
 use vx_types::PType;
 
 /// Nodes that give truth values.
-const TRUTHS: [&str; 44] = [
+const TRUTHS: [&str; 50] = [
     "(T and T)",
     "(T or T)",
     "(not T)",
@@ -53,6 +53,12 @@ const TRUTHS: [&str; 44] = [
     "cast(T as bool)",
     "(N + #N = N)",
     "(N % #N = N)",
+    "list_contains(*N, N)",
+    "list_contains(*N, N)",
+    "(not list_contains(*N, N))",
+    "list_contains(*S, S)",
+    "list_contains(*B, B)",
+    "list_contains(*T, T)",
 ];
 
 const NUMBERS: [&str; 14] = [
@@ -91,7 +97,7 @@ const SUMMED: [&str; 8] = [
 ];
 
 /// Nodes over measures that give truth values.
-const OF_MEASURES: [&str; 11] = [
+const OF_MEASURES: [&str; 13] = [
     "(E = E)",
     "(E != #E)",
     "(E < E)",
@@ -103,6 +109,8 @@ const OF_MEASURES: [&str; 11] = [
     "(#E <= E < #E)",
     "(E is null)",
     "(E is not null)",
+    "list_contains(*E, E)",
+    "(not list_contains(*E, E))",
 ];
 
 /// Nodes that give what their children give.

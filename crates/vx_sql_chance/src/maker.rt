@@ -1,11 +1,12 @@
 // Expressions by chance, as source texts.
 use crate::grammar::MASKS;
 use crate::kinds::{Kind, MEASURES, Measure, NUMBERS, has_measures, has_pairs};
+use crate::values::maybe_null;
 use std::alloc::{AllocError, Global};
 use vx_source::{ScalarText, parse_type};
 use vx_sql::Dialect;
 use vx_test_support::{Seeds, Unread, parted};
-use vx_types::{PType, Scalar};
+use vx_types::{PType, Scalar, Value};
 
 // What ends a word of a row.
 const MARKS: [char; 6] = [' ', '(', ')', ',', '.', '?'];
@@ -189,6 +190,11 @@ impl Maker {
         {
             return self.push_value(kind, text);
         }
+        if let Some(letter) = word.strip_prefix('*')
+            && let Some(kind) = node.kind_of(letter)
+        {
+            return self.push_list(kind, text);
+        }
         Ok(text.push_str(word)?)
     }
 
@@ -224,7 +230,37 @@ impl Maker {
     // A literal other than null.
     fn push_value(&mut self, kind: Kind, text: &mut String) -> Result<(), Unread> {
         let value = kind.value(self.alloc, &mut self.seeds)?;
-        let scalar = Scalar::try_new(parse_type(self.alloc, kind.type_text())?, value)?;
+        self.push_scalar(kind.type_text(), value, text)
+    }
+
+    // A literal list, which is null one time in sixteen. Half of them may have nulls.
+    fn push_list(&mut self, kind: Kind, text: &mut String) -> Result<(), Unread> {
+        let admits_null = self.seeds.below(2) == 0;
+        let mark = if admits_null { "?" } else { "" };
+        let type_text = format!(in self.alloc; "list({}{mark})?", kind.type_text())?;
+        let value = match self.seeds.below(16) {
+            0 => Value::Null,
+            _ => Value::List(self.items(kind, admits_null)?),
+        };
+        self.push_scalar(type_text.as_str(), value, text)
+    }
+
+    // Up to four values, of which each is null one time in four where it may be.
+    fn items(&mut self, kind: Kind, admits_null: bool) -> Result<Vec<Value>, AllocError> {
+        let mut items = Vec::new(self.alloc);
+        for _ in 0..self.seeds.below(5) {
+            let value = kind.value(self.alloc, &mut self.seeds)?;
+            items.push(if admits_null {
+                maybe_null(&mut self.seeds, value)
+            } else {
+                value
+            })?;
+        }
+        Ok(items)
+    }
+
+    fn push_scalar(&self, type_text: &str, value: Value, text: &mut String) -> Result<(), Unread> {
+        let scalar = Scalar::try_new(parse_type(self.alloc, type_text)?, value)?;
         let source = format!(in self.alloc; "{}", ScalarText(&scalar))?;
         Ok(text.push_str(source.as_str())?)
     }

@@ -91,7 +91,7 @@ abbrev literal_of : CastType → List ℕ → Bool → Option (List ℕ)
 literal_of c t bits = if not bits then Some (text_of c t) else None
 
 abbrev cast_written : Dialect → FloatType → CastType → List ℕ → Bool → Result (List ℕ) Unread
-cast_written d f c t bits = behind d at_start (drop 1 (cast_begin d t (sql_tokens d 0 (float_word d f ++ codes ")")))) (cast_said (with_len (4 + type_len c) (literal_of c t bits)))
+cast_written d f c t bits = let tokens = drop 1 (cast_begin d t (sql_tokens d 0 (float_word d f ++ codes ")"))) in behind d at_start tokens (cast_said d tokens (with_len (4 + type_len c) (literal_of c t bits)))
 
 both_read : (d : Dialect) (f : FloatType) → has_floats d ≡ true → TypeIsRead d f × CastIsRead d f
 both_read Postgres F32 has = (refl, λ t e. ap (cast_written Postgres F32 (named (codes "f32")) t) e)

@@ -6,6 +6,7 @@ pub mod Patterns
 pub mod Steps
 pub mod Ahead
 pub mod CastTypes
+pub mod Lengths
 pub mod Values
 pub mod Matches
 pub mod Rules

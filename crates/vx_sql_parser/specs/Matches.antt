@@ -5,7 +5,7 @@ use Rattle.std.specs.List.{list_all}
 use Rattle.vx_dtype.specs.Quotes.{between_quotes}
 use Rattle.vx_source_types.specs.Tokens.{text}
 use Rattle.vx_sql.specs.declared.dialect.Dialect.{Dialect}
-use Rattle.vx_sql.specs.declared.dialect.Dialect.TheVariants.{Sqlite}
+use Rattle.vx_sql.specs.declared.dialect.Dialect.TheVariants.{Postgres, Sqlite, DuckDb, Spark, ClickHouse}
 use Rattle.vx_sql_parser.specs.declared.reason.Unread.TheVariants.{Function, Word, Pattern, Escape, Glob, Case as NoCase}
 use Rattle.vx_sql_parser.specs.declared.step.Change.TheVariants.{Stays, Closes}
 use Rattle.vx_sql_parser.specs.SqlTokens.{SqlLexeme}
@@ -100,6 +100,14 @@ small_like d before xs i = if is_word_at xs i (codes "like") && is_small (text_a
 -- the same, or NOT LIKE
 abbrev pub folded_like : Dialect → List SqlLexeme → ℕ → Answer
 folded_like d xs i = if is_word_at xs i (codes "not") then small_like d (codes ") not ") xs (i + 1) else small_like d (codes ") ") xs i
+
+-- behind the closing bracket of a `lower(..)`, which in ClickHouse needs no collation
+abbrev pub lower_closes : Dialect → List SqlLexeme → Answer
+lower_closes Postgres xs = Err Function
+lower_closes Sqlite xs = Err Function
+lower_closes DuckDb xs = Err Function
+lower_closes Spark xs = Err Function
+lower_closes ClickHouse xs = folded_like ClickHouse xs 0
 
 -- whether that text stands there
 abbrev pub is_this_text : List SqlLexeme → ℕ → List ℕ → Bool

@@ -10,7 +10,7 @@ use Rattle.vx_sql.specs.declared.dialect.Dialect.TheVariants.{Postgres, Sqlite, 
 use Rattle.vx_sql_parser.specs.declared.reason.Unread.{Unread}
 use Rattle.vx_sql_parser.specs.declared.reason.Unread.TheVariants.{Sign as NoSign, Quotient, Chain, Function, Word, Fill as NoFill, Operand, Collation}
 use Rattle.vx_sql_parser.specs.declared.step.Bracket.{Bracket}
-use Rattle.vx_sql_parser.specs.declared.step.Bracket.TheVariants.{Paren, Fill, Lower, Translate, Divided, Case, CaseOf}
+use Rattle.vx_sql_parser.specs.declared.step.Bracket.TheVariants.{Paren, Fill, Lower, Translate, Divided, Length, Case, CaseOf}
 use Rattle.vx_sql_parser.specs.declared.step.Change.TheVariants.{Stays, Chains, Divides, Opens, Closes}
 use Rattle.vx_sql_parser.specs.SqlTokens.{SqlLexeme, sql_tokens}
 use Rattle.vx_sql_parser.specs.Words.{is_divider, is_plain_word, is_reserved}
@@ -18,8 +18,9 @@ use Rattle.vx_sql_parser.specs.Patterns.{ignores_case}
 use Rattle.vx_sql_parser.specs.Steps.{State, changed, innermost, Answer, says}
 use Rattle.vx_sql_parser.specs.Ahead.{lexeme_at, name_in, opens, closes, is_slash, is_text, sign_at, is_word_at}
 use Rattle.vx_sql_parser.specs.CastTypes.{type_at}
+use Rattle.vx_sql_parser.specs.Lengths.{length_closes, length_as}
 use Rattle.vx_sql_parser.specs.Values.{name_rule, number_rule, point_rule, is_bytes_order, as_said, valued_rule, is_fill}
-use Rattle.vx_sql_parser.specs.Matches.{like_rule, ilike_rule, glob_rule, folded_like, translated}
+use Rattle.vx_sql_parser.specs.Matches.{like_rule, ilike_rule, glob_rule, folded_like, lower_closes, translated}
 
 -- ---- CASE
 
@@ -89,6 +90,11 @@ case_rule d top w xs =
     if same_word w (codes "end") then says (codes "end") Closes 0 else
     other_rule d top w xs)))
 
+-- `as`, before a type
+abbrev pub as_rule : Dialect → Option Bracket → List SqlLexeme → Answer
+as_rule d (Some Length) xs = length_as d xs
+as_rule d top xs = as_said (type_at d xs 0)
+
 -- `is`, `like`, `ilike`, `glob` and `as`
 abbrev pub keyword_rule : Dialect → Option Bracket → List ℕ → List SqlLexeme → Answer
 keyword_rule d top w xs =
@@ -96,7 +102,7 @@ keyword_rule d top w xs =
     if same_word w (codes "like") then like_rule d (ignores_case d) xs 0 else (
     if same_word w (codes "ilike") then ilike_rule d xs else (
     if same_word w (codes "glob") then glob_rule d xs else (
-    if same_word w (codes "as") then as_said (type_at d xs 0) else
+    if same_word w (codes "as") then as_rule d top xs else
     case_rule d top w xs))))
 
 abbrev pub word_rule : Dialect → Option Bracket → List ℕ → List SqlLexeme → Answer
@@ -109,11 +115,12 @@ abbrev pub chain_rule : Bool → List ℕ → Answer
 chain_rule chained s = if chained then Err Chain else says s Chains 0
 
 -- a closing bracket, but behind a text whose case is ignored and that isn't matched; that of a quotient closes two
-abbrev pub close_rule : Option Bracket → Answer
-close_rule (Some Lower) = Err Function
-close_rule (Some Translate) = Err Function
-close_rule (Some Divided) = says (codes "))") Closes 0
-close_rule top = says (codes ")") Closes 0
+abbrev pub close_rule : Dialect → Option Bracket → List SqlLexeme → Answer
+close_rule d (Some Lower) xs = lower_closes d xs
+close_rule d (Some Translate) xs = Err Function
+close_rule d (Some Divided) xs = says (codes "))") Closes 0
+close_rule d (Some Length) xs = length_closes d xs
+close_rule d top xs = says (codes ")") Closes 0
 
 -- a `/`: the quotient of whole numbers is one in PostgreSQL and SQLite, and that by `//` in DuckDB; the others have a fraction
 abbrev pub slash_rule : Dialect → List SqlLexeme → Answer
@@ -123,22 +130,21 @@ slash_rule DuckDb xs = if is_slash (sign_at xs 0) then says (codes "/") Stays 1 
 slash_rule Spark xs = Err Quotient
 slash_rule ClickHouse xs = Err Quotient
 
-abbrev pub sign_rule : Option Bracket → Bool → Sign → Answer
-sign_rule top chained OpenParen = says (codes "(") (Opens Paren) 0
-sign_rule top chained CloseParen = close_rule top
-sign_rule top chained Dot = says (codes ".") Stays 0
-sign_rule top chained Equal = says (codes "=") Stays 0
-sign_rule top chained DoubleEqual = says (codes "=") Stays 0
-sign_rule top chained NotEqual = says (codes "<>") Stays 0
-sign_rule top chained Less = chain_rule chained (codes "<")
-sign_rule top chained LessEqual = chain_rule chained (codes "<=")
-sign_rule top chained Greater = says (codes ">") Stays 0
-sign_rule top chained GreaterEqual = says (codes ">=") Stays 0
-sign_rule top chained Plus = says (codes "+") Stays 0
-sign_rule top chained Minus = says (codes "-") Stays 0
-sign_rule top chained Star = says (codes "*") Stays 0
-sign_rule top chained Percent = says (codes "%") Stays 0
-sign_rule top chained other = Err NoSign
+abbrev pub sign_rule : Bool → Sign → Answer
+sign_rule chained OpenParen = says (codes "(") (Opens Paren) 0
+sign_rule chained Dot = says (codes ".") Stays 0
+sign_rule chained Equal = says (codes "=") Stays 0
+sign_rule chained DoubleEqual = says (codes "=") Stays 0
+sign_rule chained NotEqual = says (codes "<>") Stays 0
+sign_rule chained Less = chain_rule chained (codes "<")
+sign_rule chained LessEqual = chain_rule chained (codes "<=")
+sign_rule chained Greater = says (codes ">") Stays 0
+sign_rule chained GreaterEqual = says (codes ">=") Stays 0
+sign_rule chained Plus = says (codes "+") Stays 0
+sign_rule chained Minus = says (codes "-") Stays 0
+sign_rule chained Star = says (codes "*") Stays 0
+sign_rule chained Percent = says (codes "%") Stays 0
+sign_rule chained other = Err NoSign
 
 -- ---- tokens
 
@@ -149,9 +155,10 @@ token_rule d top chained (quoted a) xs = name_rule a xs
 token_rule d top chained (text t) xs = says (between_quotes 34 t) Stays 0
 token_rule d top chained (number negative (Some n) s) xs = number_rule negative n xs
 token_rule d top chained (point s) xs = point_rule d s xs
+token_rule d top chained (sign CloseParen) xs = close_rule d top xs
 token_rule d top chained (sign Comma) xs = comma_rule d top xs
 token_rule d top chained (sign Slash) xs = slash_rule d xs
-token_rule d top chained (sign o) xs = sign_rule top chained o
+token_rule d top chained (sign o) xs = sign_rule chained o
 token_rule d top chained x xs = Err NoSign
 
 abbrev pub rule : Dialect → Option Bracket → Bool → SqlLexeme → List SqlLexeme → Answer

@@ -43,7 +43,7 @@ folded DuckDb w = w
 folded Spark w = w
 folded ClickHouse w = w
 
--- a number has no word behind it, and is below 2 ^ 64
+-- a whole number below 2 ^ 64 has no word behind it; from there on it is its text
 abbrev pub number_lexeme : Bool → Option ℕ → List ℕ → SqlLexeme
 number_lexeme negative (Some n) [] = Ok (number negative (Some n) [])
 number_lexeme negative m suffix = Err NoNumber

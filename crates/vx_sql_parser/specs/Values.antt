@@ -17,6 +17,7 @@ use Rattle.vx_sql_parser.specs.Words.{is_one_of, is_truth}
 use Rattle.vx_sql_parser.specs.CastTypes.{CastType, named, double_precision, decimals, instants, instants_named, type_source, type_len, type_at}
 use Rattle.vx_sql_parser.specs.Patterns.{as_text, behind}
 use Rattle.vx_sql_parser.specs.Steps.{is_kept, Answer, says}
+use Rattle.vx_sql_parser.specs.Lengths.{counts_bytes, length_begins}
 use Rattle.vx_sql_parser.specs.Ahead.{lexeme_at, opens, closes, is_dot, sign_at, word_at, text_at, is_this, is_word_at}
 
 -- ---- names, numbers and bytes
@@ -191,10 +192,10 @@ cast_to d xs i (Some t) = if closes (sign_at xs (i + 3 + type_len t)) then with_
 abbrev pub literal_cast : Dialect → List SqlLexeme → ℕ → Option Cast
 literal_cast d xs i = if is_word_at xs (i + 2) (codes "as") then cast_to d xs i (type_at d xs (i + 3)) else None
 
--- a literal, or a bracket around what is cast
-abbrev pub cast_said : Option Cast → Answer
-cast_said (Some (t, n)) = says t Stays n
-cast_said None = says (codes "cast(") (Opens Paren) 1
+-- a literal, or a bracket around what is cast or counted
+abbrev pub cast_said : Dialect → List SqlLexeme → Option Cast → Answer
+cast_said d xs (Some (t, n)) = says t Stays n
+cast_said d xs None = if counts_bytes d (codes "cast") xs then length_begins else says (codes "cast(") (Opens Paren) 1
 
 -- the type behind `as`, which lets nulls be
 abbrev pub as_said : Option CastType → Answer
@@ -216,20 +217,26 @@ abbrev pub unhex_rule : Dialect → List SqlLexeme → Answer
 unhex_rule ClickHouse xs = if closes (sign_at xs 2) then octets_said 3 (text_at xs 1) else Err Function
 unhex_rule d xs = Err Function
 
--- the functions that ignore the case of ASCII letters, before a match, and ClickHouse's that divides whole numbers
+-- the functions that ignore the case of ASCII letters, before a match, DuckDB's that counts the bytes of a text, and ClickHouse's that divides
+-- whole numbers
 abbrev pub other_call : Dialect → List ℕ → Answer
 other_call Postgres w = if same_word w (codes "lower") then says (codes "(") (Opens Lower) 1 else Err Function
 other_call Sqlite w = Err Function
-other_call DuckDb w = if same_word w (codes "translate") then says (codes "(") (Opens Translate) 1 else Err Function
+other_call DuckDb w =
+    if same_word w (codes "translate") then says (codes "(") (Opens Translate) 1 else (
+    if same_word w (codes "strlen") then says (codes "byte_length(") (Opens Paren) 1 else Err Function)
 other_call Spark w = if same_word w (codes "translate") then says (codes "(") (Opens Translate) 1 else Err Function
-other_call ClickHouse w = if same_word w (codes "intdiv") then says (codes "((") (Opens Divided) 1 else Err Function
+other_call ClickHouse w =
+    if same_word w (codes "lower") then says (codes "(") (Opens Lower) 1 else (
+    if same_word w (codes "intdiv") then says (codes "((") (Opens Divided) 1 else Err Function)
 
 abbrev pub call_rule : Dialect → List ℕ → List SqlLexeme → Answer
 call_rule d w xs =
-    if same_word w (codes "cast") then cast_said (literal_cast d xs 0) else (
+    if same_word w (codes "cast") then cast_said d xs (literal_cast d xs 0) else (
     if same_word w (codes "coalesce") then says (codes "coalesce(") (Opens Fill) 1 else (
     if same_word w (codes "decode") then decode_rule d xs else (
-    if same_word w (codes "unhex") then unhex_rule d xs else other_call d w)))
+    if same_word w (codes "unhex") then unhex_rule d xs else (
+    if counts_bytes d w xs then length_begins else other_call d w))))
 
 -- a call, or a word before a text
 abbrev pub valued_rule : Dialect → List ℕ → List SqlLexeme → Answer

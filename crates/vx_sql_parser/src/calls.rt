@@ -10,6 +10,7 @@ use crate::ahead::{closes_at, opens_at, text_at};
 use crate::casts::cast;
 use crate::folds::translated;
 use crate::keywords::{is, is_truth};
+use crate::lengths::{counts_bytes, length_begins};
 use crate::lexed::Lexed;
 use crate::names::{octets_said, typed_text};
 use crate::reason::Unread;
@@ -46,21 +47,27 @@ fn call(alloc: Global, dialect: Dialect, word: &str, tokens: &[Lexed]) -> Result
         decode(alloc, dialect, tokens)
     } else if is(word, "unhex") {
         unhex(alloc, dialect, tokens)
+    } else if counts_bytes(dialect, word, tokens) {
+        length_begins(alloc)
     } else {
         other_call(alloc, dialect, word)
     }
 }
 
-// The functions that ignore the case of ASCII letters, before a match, and ClickHouse's that divides whole numbers.
+// The functions that ignore the case of ASCII letters, before a match, DuckDB's that counts the bytes of a text, and
+// ClickHouse's that divides whole numbers.
 fn other_call(alloc: Global, dialect: Dialect, word: &str) -> Result<Step, Stop>
     ensures { Answers result (values.other_call dialect word.now) }
 {
     match dialect {
-        Dialect::Postgres if is(word, "lower") => {
+        Dialect::Postgres | Dialect::ClickHouse if is(word, "lower") => {
             says(alloc, "(", Change::Opens(Bracket::Lower), 1)
         }
         Dialect::DuckDb | Dialect::Spark if is(word, "translate") => {
             says(alloc, "(", Change::Opens(Bracket::Translate), 1)
+        }
+        Dialect::DuckDb if is(word, "strlen") => {
+            says(alloc, "byte_length(", Change::Opens(Bracket::Paren), 1)
         }
         Dialect::ClickHouse if is(word, "intdiv") => {
             says(alloc, "((", Change::Opens(Bracket::Divided), 1)

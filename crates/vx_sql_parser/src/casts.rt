@@ -4,12 +4,14 @@ ghost use Rattle.vx_dtype.specs.Quotes.{between_quotes};
 ghost use Rattle.vx_source_types.specs.Views.{lexeme_of};
 ghost use Rattle.vx_sql_parser.specs.CastTypes as types;
 ghost use Rattle.vx_sql_parser.specs.Values as values;
+ghost use Rattle.vx_sql_parser.specs.Rules as rules;
 ghost use Rattle.vx_sql_parser.specs.RuleViews.{Answers};
 ghost use Rattle.vx_sql_parser.specs.Views.{cast_of, cast_type_of, lexemes_of};
 
 use crate::ahead::{closes_at, is_word_at, token_at};
 use crate::cast_types::{CastType, type_at};
 use crate::keywords::{is, is_one_of};
+use crate::lengths::{counts_bytes, length_as, length_begins};
 use crate::lexed::Lexed;
 use crate::names::sign_of;
 use crate::octets::escape_digits;
@@ -21,12 +23,13 @@ use std::alloc::{AllocError, Global};
 use vx_source_types::Token;
 use vx_sql::{Dialect, has_floats};
 
-// A cast whose bracket is the first token: a literal, or the bracket around what is cast.
+// A cast whose bracket is the first token: a literal, or the bracket around what is cast or counted.
 pub(crate) fn cast(alloc: Global, dialect: Dialect, tokens: &[Lexed]) -> Result<Step, Stop>
-    ensures { Answers result (values.cast_said (values.literal_cast dialect (lexemes_of tokens.now) 0)) }
+    ensures { Answers result (values.cast_said dialect (lexemes_of tokens.now) (values.literal_cast dialect (lexemes_of tokens.now) 0)) }
 {
     match literal_cast(alloc, dialect, tokens, 0)? {
         Some((text, len)) => Ok(stepped(text, Change::Stays, len)),
+        None if counts_bytes(dialect, "cast", tokens) => length_begins(alloc),
         None => says(alloc, "cast(", Change::Opens(Bracket::Paren), 1),
     }
 }
@@ -227,8 +230,23 @@ fn is_float_text(dialect: Dialect, text: &str) -> bool
     has_floats(dialect) && !text.as_bytes().starts_with(b"0x")
 }
 
+// `as`, before a type.
+pub(crate) fn as_rule(
+    alloc: Global,
+    dialect: Dialect,
+    top: Option<&Bracket>,
+    tokens: &[Lexed],
+) -> Result<Step, Stop>
+    ensures { Answers result (rules.as_rule dialect (option_map (λ b. b.now) top.entry) (lexemes_of tokens.now)) }
+{
+    match top {
+        Some(Bracket::Length) => length_as(alloc, dialect, tokens),
+        _ => as_type(alloc, dialect, tokens),
+    }
+}
+
 // The type behind `as`.
-pub(crate) fn as_type(alloc: Global, dialect: Dialect, tokens: &[Lexed]) -> Result<Step, Stop>
+fn as_type(alloc: Global, dialect: Dialect, tokens: &[Lexed]) -> Result<Step, Stop>
     ensures { Answers result (values.as_said (types.type_at dialect (lexemes_of tokens.now) 0)) }
 {
     match type_at(dialect, tokens, 0) {

@@ -167,7 +167,7 @@ fn text_of(
     Ok(Ok(Token::Text(text)))
 }
 
-// A number, with no word behind it, and below 2^64.
+// A whole number below 2^64, with no word behind it.
 fn number_of(negative: bool, magnitude: Option<u64>, suffix: FieldName) -> Result<Token, Unread>
     ensures { sql_of result ≡ number_lexeme negative magnitude suffix }
 {

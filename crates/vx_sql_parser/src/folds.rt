@@ -11,6 +11,7 @@ ghost use Rattle.vx_sql_parser.specs.Views.{lexemes_of};
 
 use crate::ahead::{closes_at, is_comma_at, is_this_text, is_word_at, text_at, token_at};
 use crate::keywords::{is, is_one_of};
+use crate::lengths::length_closes;
 use crate::lexed::Lexed;
 use crate::likes::like;
 use crate::reason::Unread;
@@ -20,13 +21,32 @@ use vx_source_types::Token;
 use vx_sql::Dialect;
 
 // A closing bracket, but behind a text whose case is ignored and that isn't matched.
-pub(crate) fn closing(alloc: Global, top: Option<&Bracket>) -> Result<Step, Stop>
-    ensures { Answers result (rules.close_rule (option_map (λ b. b.now) top.entry)) }
+pub(crate) fn closing(
+    alloc: Global,
+    dialect: Dialect,
+    top: Option<&Bracket>,
+    behind: &[Lexed],
+) -> Result<Step, Stop>
+    ensures { Answers result (rules.close_rule dialect (option_map (λ b. b.now) top.entry) (lexemes_of behind.now)) }
 {
     match top {
-        Some(Bracket::Lower | Bracket::Translate) => Err(Stop::Unread(Unread::Function)),
+        Some(Bracket::Lower) => lower_closes(alloc, dialect, behind),
+        Some(Bracket::Translate) => Err(Stop::Unread(Unread::Function)),
+        Some(Bracket::Length) => length_closes(alloc, dialect, behind),
         Some(Bracket::Divided) => says(alloc, "))", Change::Closes, 0),
         _ => says(alloc, ")", Change::Closes, 0),
+    }
+}
+
+// Behind the closing bracket of a `lower(..)`, which in ClickHouse needs no collation.
+fn lower_closes(alloc: Global, dialect: Dialect, behind: &[Lexed]) -> Result<Step, Stop>
+    ensures { Answers result (matches.lower_closes dialect (lexemes_of behind.now)) }
+{
+    match dialect {
+        Dialect::ClickHouse => folded_like(alloc, dialect, behind, 0),
+        Dialect::Postgres | Dialect::Sqlite | Dialect::DuckDb | Dialect::Spark => {
+            Err(Stop::Unread(Unread::Function))
+        }
     }
 }
 

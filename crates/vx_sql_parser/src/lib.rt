@@ -14,6 +14,7 @@ mod folds;
 mod globs;
 mod keywords;
 mod laws;
+mod lengths;
 mod lexed;
 mod likes;
 mod names;

@@ -19,8 +19,8 @@ pub enum Unread {
     /// A quote that isn't the engine's for names.
     #[error("names don't stand between these quotes in this engine")]
     NameQuote,
-    /// A number with a second point or a word behind it, or a whole one from 2^64 on.
-    #[error("whole numbers below 2^64 are read, and numbers with one point, an exponent or both, with no word behind")]
+    /// A number with a second point or a word behind it.
+    #[error("numbers are read that have at most one point and an exponent, with no word behind")]
     Number,
     /// Bytes that aren't spelled by hexadecimal digits.
     #[error("bytes are spelled by hexadecimal digits")]

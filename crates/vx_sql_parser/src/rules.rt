@@ -9,7 +9,7 @@ ghost use Rattle.vx_sql_parser.specs.Views.{lexeme_in, lexemes_of};
 use crate::ahead::{is_slash_at, is_text_at, is_word_at, opens_at};
 use crate::calls::{comma, valued};
 use crate::cases::{case_begins, then_said, when_said};
-use crate::casts::as_type;
+use crate::casts::as_rule;
 use crate::folds::{closing, collate_rule};
 use crate::keywords::{is, is_divider, is_plain_word, is_reserved};
 use crate::lexed::Lexed;
@@ -51,6 +51,9 @@ impl Translation {
                 ..
             } => number_rule(alloc, *negative, *n, behind),
             Token::Point(digits) => point_rule(alloc, self.dialect, digits.as_str(), behind),
+            Token::Sign(Sign::CloseParen) => {
+                closing(alloc, self.dialect, self.state.innermost(), behind)
+            }
             Token::Sign(Sign::Comma) => comma(alloc, self.dialect, self.state.innermost(), behind),
             Token::Sign(Sign::Slash) => slash_rule(alloc, self.dialect, behind),
             Token::Sign(sign) => self.sign_rule(alloc, *sign),
@@ -83,7 +86,7 @@ impl Translation {
         } else if is(word, "glob") {
             glob(alloc, self.dialect, behind)
         } else if is(word, "as") {
-            as_type(alloc, self.dialect, behind)
+            as_rule(alloc, self.dialect, self.state.innermost(), behind)
         } else {
             self.case_rule(alloc, word, behind)
         }
@@ -122,13 +125,12 @@ impl Translation {
         }
     }
 
-    // A sign, no comma and no `/`.
+    // A sign, no comma, no `/` and no closing bracket.
     fn sign_rule(&self, alloc: Global, sign: Sign) -> Result<Step, Stop>
-        ensures { Answers result (rules.sign_rule (steps.innermost self.now.state.brackets.items) self.now.state.chained sign) }
+        ensures { Answers result (rules.sign_rule self.now.state.chained sign) }
     {
         match sign {
             Sign::OpenParen => says(alloc, "(", Change::Opens(Bracket::Paren), 0),
-            Sign::CloseParen => closing(alloc, self.state.innermost()),
             Sign::Dot => says(alloc, ".", Change::Stays, 0),
             Sign::Equal | Sign::DoubleEqual => says(alloc, "=", Change::Stays, 0),
             Sign::NotEqual => says(alloc, "<>", Change::Stays, 0),

@@ -21,6 +21,8 @@ pub(crate) enum Bracket {
     Translate,
     /// The bracket of a function that divides whole numbers.
     Divided,
+    /// The bracket of the inner of two functions that count the bytes of a text.
+    Length,
     /// A CASE.
     Case,
     /// A CASE over the column of that name.

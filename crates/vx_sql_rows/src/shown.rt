@@ -69,7 +69,7 @@ fn is_plain(tree: &BoundExpression, levels: usize) -> bool {
         return false;
     };
     let is_plain_node = match tree.as_scalar() {
-        Some(ScalarFnRef::Literal(scalar)) => !matches!(scalar.value(), Value::Null),
+        Some(ScalarFnRef::Literal(scalar)) => has_no_null(scalar.value()),
         Some(ScalarFnRef::CaseWhen(_) | ScalarFnRef::Zip(_) | ScalarFnRef::Mask(_)) => false,
         Some(ScalarFnRef::Binary(_) | ScalarFnRef::Not(_) | ScalarFnRef::Between(_)) => true,
         Some(ScalarFnRef::IsNull(_) | ScalarFnRef::IsNotNull(_) | ScalarFnRef::FillNull(_)) => true,
@@ -88,4 +88,13 @@ fn is_plain(tree: &BoundExpression, levels: usize) -> bool {
         }
     }
     true
+}
+
+// Whether the value isn't null, and no element of a list is.
+fn has_no_null(value: &Value) -> bool {
+    match value {
+        Value::Null => false,
+        Value::List(items) => items.iter().all(|item| !matches!(item, Value::Null)),
+        _ => true,
+    }
 }

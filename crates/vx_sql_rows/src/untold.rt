@@ -19,9 +19,10 @@ pub fn is_untold(dialect: Dialect, tree: &BoundExpression, unsupported: &Unsuppo
         Reason::UnknownFunction => {
             is_arithmetic(node) && (is_measure(node) || lacks_quotients(dialect))
         }
-        Reason::FarDay => is_measure(node),
-        Reason::FloatOrder => is_float(node) || node.children().iter().any(|child| is_float(child)),
-        _ => is_float(node),
+        Reason::FarDay => {
+            is_measure(node) || node.children().iter().any(|child| is_measure(child))
+        }
+        _ => is_float(node) || node.children().iter().any(|child| is_float(child)),
     }
 }
 

@@ -129,3 +129,24 @@ invariant-structs::write_fields-loop-index g l =
     IsPlainFormatter l.initial.f
     → (done : List ℕ) × HasWritten g.W.Write.write_str_gives l.initial.f done l.f
     × (done ++ after_commas (drop l.index (fields_sql l.children.dialect l.names (sqls_in l.children))) ≡ after_commas (drop 1 (fields_sql l.children.dialect l.names (sqls_in l.children))))
+
+abbrev pub decreases-lists::write_membership : goal.decreases-lists::write_membership
+decreases-lists::write_membership g l = 16 * sizes_of (unbound_each (bounds_of l.children.nodes.now)) + 6
+
+abbrev pub decreases-lists::write_among : goal.decreases-lists::write_among
+decreases-lists::write_among g l = 16 * sizes_of (unbound_each (bounds_of l.children.nodes.now)) + 5
+
+abbrev pub decreases-lists::write_in_none : goal.decreases-lists::write_in_none
+decreases-lists::write_in_none g l = 16 * sizes_of (unbound_each (bounds_of l.children.nodes.now)) + 3
+
+abbrev pub decreases-lists::write_in_nulls : goal.decreases-lists::write_in_nulls
+decreases-lists::write_in_nulls g l = 16 * sizes_of (unbound_each (bounds_of l.children.nodes.now)) + 4
+
+abbrev pub decreases-lists::write_null_in : goal.decreases-lists::write_null_in
+decreases-lists::write_null_in g l = 16 * sizes_of (unbound_each (bounds_of l.children.nodes.now)) + 3
+
+abbrev pub decreases-lists::write_in : goal.decreases-lists::write_in
+decreases-lists::write_in g l = 16 * sizes_of (unbound_each (bounds_of l.children.nodes.now)) + 3
+
+abbrev pub decreases-lists::write_sought : goal.decreases-lists::write_sought
+decreases-lists::write_sought g l = 16 * sizes_of (unbound_each (bounds_of l.children.nodes.now)) + 2
