@@ -134,7 +134,8 @@ vx_status vx_fmt(const char *expression, size_t expression_length, char *buffer,
 /* For each chunk an object on a line, with its "rows" and the "verdict" on the expression, which has to be
    of truth values: "no row" where it is true in none, "every row", or "to be read". The statistics are a
    line of JSON for each chunk, as {"rows": 3, "fields": {"a.x": {"nulls": 1, "least": 1, "greatest": 5}}}.
-   What they don't say isn't known. */
+   What they don't say isn't known. A line with more nulls than rows, or with a greatest value below the least
+   one, is VX_BAD_DATA. */
 vx_status vx_prune(const char *expression, size_t expression_length, const char *schema,
                    size_t schema_length, const char *statistics, size_t statistics_length,
                    char *buffer, size_t buffer_length, vx_answer *answer);

@@ -15,7 +15,7 @@ pub(crate) fn help_for(refusal: &VortexError) -> Option<&'static str> {
         ),
         VortexError::NotComparable => Some("compare the fields one by one"),
         VortexError::NotNumeric => Some(
-            "compute with numbers of one type, as in x + 1: decimals have + and - alone, floats no %",
+            "compute with numbers of one type, as in x + 1: decimals have + and - alone",
         ),
         VortexError::NotText => Some("this takes texts of type utf8, as in s like \"a%\""),
         VortexError::NoPairs => Some("write at least one `when` with its `then`"),
@@ -31,8 +31,21 @@ pub(crate) fn help_for_unread(text: &str, at: usize, expected: &Expected) -> Opt
         Expected::FittingType => Some(
             "the value has to be one of the type behind it: 300 is no i8, and null::i32 lacks a `?`",
         ),
+        // The name of a function that there isn't stands before its bracket.
+        Expected::Function => help_for_foreign(text, start_of_word(text, at)),
         _ => help_for_foreign(text, at),
     }
+}
+
+// Where the word begins that ends before that byte.
+fn start_of_word(text: &str, at: usize) -> usize {
+    let Some((before, _)) = text.split_at_checked(at) else {
+        return at;
+    };
+    let before = before.trim_end();
+    let letters = before.bytes().rev();
+    let word = letters.take_while(|byte| is_within(Some(*byte))).count();
+    before.len().saturating_sub(word)
 }
 
 // What would do in place of words or signs of other languages.

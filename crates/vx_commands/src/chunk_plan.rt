@@ -3,12 +3,11 @@ use crate::data::{opened, unwritten};
 use crate::error::RowsError;
 use crate::explained::ChunksQuery;
 use crate::filtered::condition;
+use crate::statistics::read_statistics;
 use crate::tasks::written;
 use std::alloc::Global;
 use std::io::Write;
-use vx_command_pages::{
-    ChunkTask, CommandError, chunk_tasks, plan_of, planned_tasks_page, tasks_page,
-};
+use vx_command_pages::{ChunkTask, chunk_tasks, plan_of, planned_tasks_page, tasks_page};
 use vx_prune::ChunkStats;
 use vx_records::RecordReader;
 
@@ -49,11 +48,7 @@ fn chunks_read<R: RecordReader>(
         let Some(record) = opened(records.read(alloc))? else {
             return Ok(chunks);
         };
-        // (the record is of the type that statistics are asked to be of, so that memory alone is wanting)
-        let Ok(stats) = query.chunks.stats(alloc, &record.row) else {
-            return Err(RowsError::Query(CommandError::OutOfMemory));
-        };
-        chunks.push(stats)?;
+        chunks.push(opened(read_statistics(alloc, query.chunks, &record))?)?;
     }
     Ok(chunks)
 }

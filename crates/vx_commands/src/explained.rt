@@ -5,14 +5,15 @@ ghost use Rattle.vx_tree.specs.Views.{bound_of};
 use crate::data::{opened, unwritten};
 use crate::error::RowsError;
 use crate::page::chunk_page;
+use crate::statistics::read_statistics;
 use crate::tasks::written;
 use std::alloc::Global;
 use std::io::Write;
-use vx_command_pages::{CommandError, bind};
+use vx_command_pages::bind;
 use vx_prune::ChunkRecords;
 use vx_records::{Record, RecordReader};
 use vx_source::Placed;
-use vx_tree::{BoundExpression, VortexResult};
+use vx_tree::BoundExpression;
 use vx_types::DType;
 
 /// An expression of which statistics of chunks tell something, and over how many chunks it goes.
@@ -31,7 +32,7 @@ pub struct ChunksQuery<'a, 'c> {
 /// Writes of each of the first `limit` chunks, or of all where there are fewer, what its statistics
 /// tell of the expression over rows of its type. Fails at the expression's first refusal over
 /// that type, and for want of memory, and then nothing is written; and at what stops reading the
-/// statistics or writing.
+/// statistics, of which those that can't be so are refused, or writing.
 pub fn explain_chunks<R: RecordReader, W: Write>(
     alloc: Global,
     query: &ChunksQuery<'_, '_>,
@@ -47,10 +48,8 @@ pub fn explain_chunks<R: RecordReader, W: Write>(
             return Ok(());
         };
         let number = number.saturating_add(1);
-        match page_of(alloc, number, &tree, query.chunks, &record) {
-            Ok(page) => unwritten(written(out, page.as_str()))?,
-            Err(_) => return Err(RowsError::Query(CommandError::OutOfMemory)),
-        }
+        let page = page_of(alloc, number, &tree, query.chunks, &record)?;
+        unwritten(written(out, page.as_str()))?;
     }
     Ok(())
 }
@@ -62,9 +61,9 @@ fn page_of(
     tree: &BoundExpression,
     chunks: &ChunkRecords<'_>,
     record: &Record,
-) -> VortexResult<String>
+) -> Result<String, RowsError>
     requires { WellTyped (bound_of tree.now) }
 {
-    let stats = chunks.stats(alloc, &record.row)?;
+    let stats = opened(read_statistics(alloc, chunks, record))?;
     Ok(chunk_page(alloc, number, tree, &stats)?)
 }

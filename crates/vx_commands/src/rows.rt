@@ -270,7 +270,7 @@ impl<W: Write, E: Write> Run<'_, '_, W, E> {
         let Ok(chunks) = ChunkRecords::new(alloc, &query.scope) else {
             return Err(RowsError::Query(CommandError::OutOfMemory));
         };
-        let Ok(dtype) = chunks.record_type(alloc) else {
+        let Ok(dtype) = chunks.record_type() else {
             return Err(RowsError::Query(CommandError::OutOfMemory));
         };
         let mut records = JsonRecords::new(alloc, dtype, buffered(alloc, data)?);

@@ -97,6 +97,12 @@ pub enum Expected {
     /// An empty text, which would be read as null.
     #[error("expected a text that isn't empty, since an empty cell is null")]
     NonEmptyText,
+    /// Statistics of a chunk count more nulls than rows.
+    #[error("expected no more nulls than rows")]
+    NoMoreThanRows,
+    /// Statistics of a chunk have a greatest value that comes before the least one.
+    #[error("expected a value that isn't below the least one")]
+    NotBelowLeast,
     /// A struct whose cells are all empty, which would be read as null.
     #[error("expected a cell that isn't empty, since a struct of empty cells is null")]
     NonEmptyCell,

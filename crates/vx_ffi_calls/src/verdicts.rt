@@ -14,17 +14,16 @@ use crate::stop::CallError;
 use crate::text::{Given, GivenQuery, read_text};
 use std::alloc::{AllocError, Global};
 use vx_command_pages::{CommandError, Span, read_query};
-use vx_commands::{RowsError, condition};
+use vx_commands::{RowsError, condition, read_statistics};
 use vx_data::DataError;
 use vx_prune::{ChunkRecords, ChunkStats, Verdict, verdict};
 use vx_records::{JsonRecords, Record, RecordReader, RecordsError};
 use vx_tree::BoundExpression;
-use vx_types::{DType, VortexResult};
 
 /// Answers for each chunk of rows of the schema's type what its statistics tell of the expression, which
 /// is one of truth values, as a line of JSON each; the statistics are lines of JSON as [`ChunkRecords`]
 /// reads them. Stops at what can't be read, at the first refusal, at an expression of another type, and
-/// at the first line that isn't one of statistics; then no line is answered.
+/// at the first line that isn't one of statistics or says what can't be so; then no line is answered.
 pub fn answer_verdicts(
     alloc: Global,
     query: &GivenQuery<'_>,
@@ -106,7 +105,7 @@ fn opened_statistics<'a>(
 ) -> Result<JsonRecords<&'a [u8]>, RowsError>
     ensures { IfErr result IsStatisticsError }
 {
-    match chunks.record_type(alloc) {
+    match chunks.record_type() {
         Ok(dtype) => Ok(JsonRecords::new(alloc, dtype, statistics)),
         Err(_) => Err(out_of_memory()),
     }
@@ -125,10 +124,7 @@ fn push_chunk(
     ensures line { OnOk result (AddsVerdictLine (bound_of tree.now) (string_bytes page.old) (string_bytes page.new)) }
     ensures error { IfErr result IsStatisticsError }
 {
-    // (the record is of the type that statistics are asked to be of, so that memory alone is wanting)
-    let Ok(line) = line_of(alloc, tree, chunks, record) else {
-        return Err(out_of_memory());
-    };
+    let line = line_of(alloc, tree, chunks, record)?;
     match page.push_str(line.as_str()) {
         Ok(()) => Ok(()),
         Err(_) => Err(out_of_memory()),
@@ -141,13 +137,20 @@ fn line_of(
     tree: &BoundExpression,
     chunks: &ChunkRecords<'_>,
     record: &Record,
-) -> VortexResult<String>
+) -> Result<String, RowsError>
     requires typed { WellTyped (bound_of tree.now) }
     requires truth { IsTrue (is_truth (node_type (bound_of tree.now))) }
-    ensures { IfOk result (λ line. IsVerdictLine (bound_of tree.now) (string_bytes line)) }
+    ensures line { IfOk result (λ line. IsVerdictLine (bound_of tree.now) (string_bytes line)) }
+    ensures error { IfErr result IsStatisticsError }
 {
-    let stats = chunks.stats(alloc, &record.row)?;
-    Ok(verdict_line(alloc, tree, &stats)?)
+    let stats = match read_statistics(alloc, chunks, record) {
+        Ok(stats) => stats,
+        Err(error) => return Err(unread(error)),
+    };
+    match verdict_line(alloc, tree, &stats) {
+        Ok(line) => Ok(line),
+        Err(_) => Err(out_of_memory()),
+    }
 }
 
 // The line of a chunk of which that is known.
