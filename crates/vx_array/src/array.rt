@@ -15,7 +15,8 @@ use std::alloc::{AllocError, Global};
 use std::fmt;
 use std::marker::Model;
 use std::sync::Arc;
-use vx_types::{Column, DType, Value, VortexError, VortexResult};
+use vx_dtype::{DType, VortexError, VortexResult};
+use vx_value::{Column, Value};
 
 /// Rows in buffers beside their type, each of which is a value of that type. Clones and slices share the
 /// buffers. Contracts see an array as the batch that a column of the same rows is.

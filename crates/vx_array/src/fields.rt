@@ -9,7 +9,7 @@ ghost use Rattle.vx_array.specs.Items.{field_of};
 
 use crate::Array;
 use std::alloc::{AllocError, Global};
-use vx_types::{DType, FieldName, Nullability, StructFields, VortexError, VortexResult};
+use vx_dtype::{DType, FieldName, Nullability, StructFields, VortexError, VortexResult};
 
 impl Array {
     /// The first field of that name of each struct, null where the struct is. It shares the buffers of structs

@@ -4,7 +4,8 @@ ghost use Rattle.vx_array.specs.Kinds.{bits_in, floats_in, format_in, numbers_in
 
 use crate::{Numbers, Part};
 use std::alloc::AllocError;
-use vx_types::{Float, FloatType};
+use vx_dtype::FloatType;
+use vx_floats::Float;
 
 /// Floating-point numbers in a buffer of their bits. Bits of whichever NaN stand for the quiet one.
 #[derive(Debug)]

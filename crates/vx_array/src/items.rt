@@ -10,7 +10,7 @@ use crate::values::{behind, has_row, value_at};
 use crate::{Lanes, Part, Stretch, Validity};
 use std::alloc::{AllocError, Global};
 use std::sync::Arc;
-use vx_types::Value;
+use vx_value::Value;
 
 impl Lanes {
     /// The item at that place of each struct, null where the struct is: the field's rows, in the same

@@ -5,7 +5,7 @@ ghost use Rattle.vx_array.specs.Rows.{lanes_rows};
 use crate::{BitPart, Floats, Numbers, Part, Spans, Stretch, Validity};
 use std::alloc::AllocError;
 use std::sync::Arc;
-use vx_types::Value;
+use vx_value::Value;
 
 /// The rows of a column in buffers, without their type. Clones and slices share the buffers.
 #[cycle(lanes)]

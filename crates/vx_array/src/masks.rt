@@ -8,7 +8,7 @@ ghost use Rattle.vx_array.specs.Shown.{shown};
 use crate::{Lanes, Validity};
 use std::alloc::{AllocError, Global};
 use std::sync::Arc;
-use vx_types::Value;
+use vx_value::Value;
 
 impl Lanes {
     /// The same rows, null where they aren't valid, in the same buffers. There is an answer unless some

@@ -10,7 +10,7 @@ ghost use Rattle.vx_array.specs.Shown.{shown};
 use crate::values::{float_at, has_row, number_at, truth_at};
 use crate::{Lanes, Spans, Stretch, Validity};
 use std::str;
-use vx_types::Value;
+use vx_value::Value;
 
 impl Lanes {
     /// Whether the row is null, as one is that isn't there. Reads the bytes of a text, which are null where they are

@@ -10,7 +10,7 @@ ghost use Rattle.vx_array.specs.Shown.{is_valid, shown};
 
 use crate::{BitPart, Floats, Lanes, Numbers, Spans, Validity};
 use std::alloc::{AllocError, Global};
-use vx_types::Value;
+use vx_value::Value;
 
 /// The value of that row, null where there is no such row.
 #[cycle(value)]

@@ -9,7 +9,7 @@ use crate::spans_builder::SpansBuilder;
 use crate::validity::{nullability, or_all};
 use std::alloc::{AllocError, Global};
 use vx_array::{Array, Lanes, Spans, Validity};
-use vx_types::{DType, VortexResult};
+use vx_dtype::{DType, VortexResult};
 
 /// The array of these texts, which are copied. With a validity it is nullable, and has as many rows as both.
 /// Refuses with `OutOfMemory` (1) alone.

@@ -14,7 +14,8 @@ use crate::native::Native;
 use std::alloc::{AllocError, Global};
 use std::sync::Arc;
 use vx_array::{Array, Lanes, Part, Stretch};
-use vx_types::{Column, DType, FloatType, PType, StructFields, Value, VortexResult};
+use vx_dtype::{DType, FloatType, PType, StructFields, VortexResult};
+use vx_value::{Column, Value};
 
 /// The array of a column's rows, in a buffer of their own width where they are truth values, whole or
 /// floating-point numbers, days, instants, texts or bytes, or structs of such. Copies them, and refuses with

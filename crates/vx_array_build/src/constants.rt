@@ -7,7 +7,8 @@ ghost use Rattle.vx_value.specs.Columns.{batch};
 use std::alloc::Global;
 use std::sync::Arc;
 use vx_array::{Array, Lanes};
-use vx_types::{Scalar, VortexResult};
+use vx_dtype::VortexResult;
+use vx_value::Scalar;
 
 /// The array of so many rows that all are the scalar. Takes memory for one row, and refuses with
 /// `OutOfMemory` (1) alone.

@@ -12,7 +12,7 @@ use crate::spans_builder::SpansBuilder;
 use std::alloc::{AllocError, Global};
 use vx_array::{BitPart, Numbers, Part, Spans, Validity};
 use vx_array_loops::{Bits, Number};
-use vx_types::Value;
+use vx_value::Value;
 
 // Which rows aren't null.
 pub(crate) fn validity_of(alloc: Global, rows: &[&Value]) -> Result<Validity, AllocError>

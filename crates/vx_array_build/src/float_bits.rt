@@ -12,7 +12,9 @@ use std::alloc::{AllocError, Global};
 use std::sync::Arc;
 use vx_array::{Floats, Lanes, Part};
 use vx_array_loops::Number;
-use vx_types::{Float, FloatType, Value};
+use vx_dtype::FloatType;
+use vx_floats::Float;
+use vx_value::Value;
 
 /// A whole number of Rust's that has the bits of floating-point numbers of one format.
 pub trait FloatBits: Native {

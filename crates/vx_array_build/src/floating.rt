@@ -10,7 +10,7 @@ use crate::validity::{nullability, or_all};
 use std::alloc::Global;
 use vx_array::{Array, Lanes, Part, Validity};
 use vx_array_loops::Number;
-use vx_types::{DType, VortexResult};
+use vx_dtype::{DType, VortexResult};
 
 /// The array of the floating-point numbers with these bits. Bits of whichever NaN stand for the quiet one.
 /// Moves them into it; otherwise as [`floats`](crate::floats).

@@ -4,7 +4,7 @@ ghost use Rattle.vx_value.specs.Types.{shape_of};
 ghost use Rattle.vx_value.specs.Views.{type_of};
 ghost use Rattle.vx_array_build.specs.Lanes.{lane_of};
 
-use vx_types::{DType, PType};
+use vx_dtype::{DType, PType};
 
 /// The number type in whose buffers the rows of a type lie: of whole numbers their own, of days `I32`, of
 /// instants `I64`. None where rows aren't kept as whole numbers.

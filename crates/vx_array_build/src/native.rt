@@ -7,7 +7,7 @@ ghost use Rattle.vx_value.specs.Fits.{fits_ptype};
 
 use vx_array::{Numbers, Part};
 use vx_array_loops::Number;
-use vx_types::PType;
+use vx_dtype::PType;
 
 /// A whole number of Rust's that is one of a `PType`.
 pub trait Native: Number {

@@ -13,7 +13,7 @@ use std::alloc::{AllocError, Global};
 use std::num::{f32_to_bits_with_nan, f64_to_bits_with_nan};
 use vx_array::{Array, Validity};
 use vx_array_loops::tabulated;
-use vx_types::VortexResult;
+use vx_dtype::VortexResult;
 
 /// A floating-point number of Rust's.
 pub trait NativeFloat: Copy + Drop {

@@ -12,7 +12,7 @@ use crate::validity::{nullability, or_all};
 use std::alloc::Global;
 use vx_array::{Array, Lanes, Part, Validity};
 use vx_array_loops::Number;
-use vx_types::{DType, Nullability, TimestampType, VortexResult};
+use vx_dtype::{DType, Nullability, TimestampType, VortexResult};
 
 /// The array of these numbers. With a validity it is nullable, and has as many rows as both. Moves the
 /// numbers into it, and refuses with `OutOfMemory` (1) alone.

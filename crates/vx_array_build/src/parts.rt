@@ -16,7 +16,8 @@ use crate::same::same_rows;
 use crate::truths_builder::TruthsBuilder;
 use std::alloc::{AllocError, Global};
 use vx_array::{Array, Lanes, value_at};
-use vx_types::{DType, FloatType, PType, Value, VortexError, VortexResult};
+use vx_dtype::{DType, FloatType, PType, VortexError, VortexResult};
+use vx_value::Value;
 
 /// The rows of the parts, one part after another, in buffers for the type's kind; constants of one value
 /// stay a constant. Refuses with `ScopeMismatch` (12) where some part has another type, before it takes any

@@ -8,7 +8,7 @@ ghost use Rattle.vx_array_build.specs.Parts.{rows_of_parts};
 
 use std::alloc::AllocError;
 use vx_array::{Array, Lanes};
-use vx_types::Value;
+use vx_value::Value;
 
 // The rows of the parts as a constant, where each part is one of the same value.
 pub(crate) fn same_rows(parts: &[Array]) -> Result<Option<Lanes>, AllocError>

@@ -9,7 +9,7 @@ use crate::taken::taken;
 use std::alloc::Global;
 use vx_array::Array;
 use vx_array_loops::Bits;
-use vx_types::VortexResult;
+use vx_dtype::VortexResult;
 
 /// The rows of these indices in their order, of which one may be there more than once. Asks indices of rows,
 /// which `are_within` tests. Refuses with `OutOfMemory` (1) alone.

@@ -11,7 +11,7 @@ use crate::validity::{nullability, or_all};
 use std::alloc::{AllocError, Global};
 use std::sync::Arc;
 use vx_array::{Array, Lanes, Stretch, Validity};
-use vx_types::{DType, FieldNames, StructFields, VortexError, VortexResult};
+use vx_dtype::{DType, FieldNames, StructFields, VortexError, VortexResult};
 
 /// The array of so many structs of the columns' rows under these names, which shares the columns' buffers.
 /// With a validity it is nullable, and has as many rows as that has. Asks one name a column. Refuses with

@@ -8,7 +8,7 @@ use crate::validity::{nullability, or_all};
 use std::alloc::Global;
 use vx_array::{Array, BitPart, Lanes, Validity};
 use vx_array_loops::Bits;
-use vx_types::{DType, VortexResult};
+use vx_dtype::{DType, VortexResult};
 
 /// The array of these truth values. With a validity it is nullable, and has as many rows as both. Moves the
 /// bits into it, and refuses with `OutOfMemory` (1) alone.

@@ -6,7 +6,7 @@ ghost use Rattle.vx_array.specs.Shown.{shown};
 ghost use Rattle.vx_array_build.specs.Built.{shown_by};
 
 use vx_array::Validity;
-use vx_types::Nullability;
+use vx_dtype::Nullability;
 
 // Nullable where there is a validity.
 pub(crate) fn nullability(validity: &Option<Validity>) -> Nullability

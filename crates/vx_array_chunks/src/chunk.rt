@@ -6,7 +6,7 @@ ghost use Rattle.vx_value.specs.Paths.{minimal_paths};
 use vx_array::Array;
 use vx_array_projection::{ArrayPlanReader, ArrayReader};
 use vx_prune_tree::ChunkStats;
-use vx_types::FieldPathSet;
+use vx_value::FieldPathSet;
 
 /// Some of the rows of a table, such as a file of it.
 pub trait Chunk<'a> {

@@ -9,8 +9,8 @@ use crate::chunk::Chunk;
 use std::alloc::Global;
 use vx_array_loops::Bits;
 use vx_array_scan::select_rows_array;
+use vx_dtype::VortexResult;
 use vx_scan::ScanPlan;
-use vx_types::VortexResult;
 
 /// The rows of the chunk at which the plan's source is true, null taken as false, as [`select_rows_array`] gives and
 /// refuses them: nothing is read where what is known of the chunk makes the verdict sure.

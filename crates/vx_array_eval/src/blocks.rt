@@ -12,9 +12,9 @@ use crate::walks::walks_twice;
 use std::alloc::Global;
 use vx_array::Lanes;
 use vx_array_build::{NumbersBuilder, RowsBuilder, TruthsBuilder, lane_type};
+use vx_dtype::{DType, PType, VortexError, VortexResult};
 use vx_eval::looks_across;
 use vx_tree::BoundExpression;
-use vx_types::{DType, PType, VortexError, VortexResult};
 
 // How many rows go through the whole tree before the next ones: so few that what the nodes make of
 // them stays in the processor's cache, and as many as fill whole words of bits.

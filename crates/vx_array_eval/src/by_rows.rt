@@ -8,8 +8,8 @@ ghost use Rattle.vx_eval.specs.Columns.{rows_view, rows_views};
 use crate::node::Node;
 use std::alloc::Global;
 use vx_array::{Lanes, Part, to_values};
+use vx_dtype::VortexResult;
 use vx_eval::{Rows, apply_function};
-use vx_types::VortexResult;
 
 /// The function over its children's lanes, or its fault over their rows, by the kernels of columns.
 #[inline(never)]

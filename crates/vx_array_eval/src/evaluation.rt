@@ -9,8 +9,8 @@ ghost use Rattle.vx_eval.specs.Evaluation.{evaluation};
 use crate::blocks::evaluate_over;
 use std::alloc::Global;
 use vx_array::Array;
+use vx_dtype::{VortexError, VortexResult};
 use vx_tree::BoundExpression;
-use vx_types::{VortexError, VortexResult};
 
 /// The value of the tree in each row of the batch: an array of the node's type, as long as the
 /// batch, in whose rows stands what the tree's source means there. Asks a well-typed tree. Every

@@ -21,8 +21,9 @@ use vx_array_kernels::{
     compute_floats, connect, fill_null, is_not_null, is_null, mask, not, starts_with, zip,
 };
 use vx_array_loops::{Comparison, Computation};
+use vx_dtype::DType;
 use vx_fn::{BetweenOptions, FillNull, Operator, ScalarFnRef, StrictComparison};
-use vx_types::{DType, Value};
+use vx_value::Value;
 
 /// The function over the one child, where there is a fast way.
 pub fn of_one(alloc: Global, node: Node, input: &Lanes) -> Result<Option<Lanes>, AllocError>

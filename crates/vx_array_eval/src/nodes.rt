@@ -19,8 +19,9 @@ use std::alloc::{AllocError, Global};
 use std::sync::Arc;
 use vx_array::Lanes;
 use vx_array_kernels::{Pair, case_when, like};
+use vx_dtype::{FieldName, VortexResult};
 use vx_fn::{FieldSelection, LikeOptions, ScalarFnRef};
-use vx_types::{FieldName, Scalar, VortexResult};
+use vx_value::Scalar;
 
 /// The function over its children's lanes, or its fault over their rows.
 #[inline(never)]

@@ -11,9 +11,9 @@ ghost use Rattle.vx_eval.specs.Columns.{rows_of, node_answer};
 use std::alloc::{AllocError, Global};
 use std::sync::Arc;
 use vx_array::{Lanes, Stretch, Validity};
+use vx_dtype::{DType, FieldName, VortexResult};
 use vx_eval::{place_of, places_of};
 use vx_fn::FieldSelection;
-use vx_types::{DType, FieldName, VortexResult};
 
 /// The first field of that name of each struct of the type, where there is a fast way: the field's rows, in
 /// the same buffers.

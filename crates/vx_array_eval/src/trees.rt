@@ -9,8 +9,8 @@ use crate::node::Node;
 use crate::nodes::apply;
 use std::alloc::Global;
 use vx_array::Lanes;
+use vx_dtype::VortexResult;
 use vx_tree::BoundExpression;
-use vx_types::VortexResult;
 
 /// The tree's value in each row of a batch, or the first fault. Refuses with `OutOfMemory` (1) too.
 #[cycle(evaluate)]

@@ -16,8 +16,9 @@ use std::alloc::{AllocError, Global};
 use vx_array::{Lanes, Numbers, Part, Validity};
 use vx_array_build::Native;
 use vx_array_loops::{Computation, Number, first_where, write_flagged};
+use vx_dtype::PType;
 use vx_fn::Operator;
-use vx_types::{PType, Value};
+use vx_value::Value;
 
 /// What an operator computes, if it is one of the five kinds of arithmetic.
 pub fn computation_of(operator: Operator) -> Option<Computation>

@@ -15,7 +15,7 @@ use crate::text_validity::text_validity;
 use std::alloc::{AllocError, Global};
 use vx_array::{BitPart, Lanes, Spans};
 use vx_array_loops::Bits;
-use vx_types::Value;
+use vx_value::Value;
 
 /// Whether each text of the first column begins with the one beside it. There is an answer where the texts are
 /// in a buffer, and those beside them in one too, or one text in all rows. Compares bytes, which tell the same

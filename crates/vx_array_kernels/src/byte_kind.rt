@@ -9,7 +9,7 @@ ghost use Rattle.vx_array.specs.Shown.{shown};
 ghost use Rattle.vx_array_kernels.specs.ByteRows.{shown_row};
 
 use vx_array::{Lanes, Spans, Validity};
-use vx_types::Value;
+use vx_value::Value;
 
 /// What rows of bytes are.
 pub trait ByteKind: Drop {

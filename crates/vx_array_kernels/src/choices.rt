@@ -17,7 +17,8 @@ use std::alloc::{AllocError, Global};
 use std::sync::Arc;
 use vx_array::Lanes;
 use vx_array_build::lane_type;
-use vx_types::{DType, FloatType, PType, Value};
+use vx_dtype::{DType, FloatType, PType};
+use vx_value::Value;
 
 // A call for rows of the kind that a type has, if they are truth values, floating-point numbers, texts or
 // bytes, or lie in buffers of numbers.

@@ -22,7 +22,7 @@ use std::alloc::{AllocError, Global};
 use vx_array::{BitPart, Lanes, Numbers, Part, Validity};
 use vx_array_loops::{Bits, Comparison, Number};
 use vx_fn::Operator;
-use vx_types::Value;
+use vx_value::Value;
 
 /// The comparison of an operator, if it is one of the six.
 pub fn comparison_of(operator: Operator) -> Option<Comparison>

@@ -18,7 +18,8 @@ use std::num::{
 };
 use vx_array::{Floats, Lanes, Part};
 use vx_array_loops::{Computation, tabulated};
-use vx_types::{Float, Value};
+use vx_floats::Float;
+use vx_value::Value;
 
 /// What is computed of two columns of floating-point numbers. There is an answer where one has some in a
 /// buffer, and the other some of the same format, or is one of them in all rows; not of `Remainder`.

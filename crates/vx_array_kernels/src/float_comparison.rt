@@ -9,7 +9,7 @@ use crate::pair::Pair;
 use std::alloc::{AllocError, Global};
 use vx_array::Lanes;
 use vx_array_loops::Comparison;
-use vx_types::FloatType;
+use vx_dtype::FloatType;
 
 /// The format of the two columns, if one has floating-point numbers in a buffer.
 pub fn format_of(pair: Pair) -> Option<FloatType> {

@@ -14,7 +14,9 @@ use std::num::{
 use std::sync::Arc;
 use vx_array::{Floats, Lanes, Numbers, Part};
 use vx_array_loops::tabulated;
-use vx_types::{Float, FloatType, Value};
+use vx_dtype::FloatType;
+use vx_floats::Float;
+use vx_value::Value;
 
 /// The places of the rows in the total order of floating-point numbers of the format, as numbers without a
 /// sign. There is an answer for floating-point numbers of the format in a buffer, and for one of them or null

@@ -13,7 +13,7 @@ use std::alloc::{AllocError, Global};
 use std::sync::Arc;
 use vx_array::{Lanes, Numbers, Part, Spans};
 use vx_array_loops::tabulated;
-use vx_types::Value;
+use vx_value::Value;
 
 /// The number of each text's bytes. There is an answer for texts in a buffer, whose offsets tell it, and for
 /// one value in all rows.

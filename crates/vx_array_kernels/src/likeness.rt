@@ -15,9 +15,10 @@ use crate::reach::Steps;
 use std::alloc::{AllocError, Global};
 use vx_array::{BitPart, Lanes, Spans, Validity};
 use vx_array_loops::{Bits, tabulated};
+use vx_dtype::VortexResult;
 use vx_eval_like::Pattern;
 use vx_fn::LikeOptions;
-use vx_types::{Value, VortexResult};
+use vx_value::Value;
 
 /// So many texts in a buffer, where they are valid.
 #[derive(Clone, Copy)]

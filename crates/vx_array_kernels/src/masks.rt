@@ -11,7 +11,7 @@ use crate::truths::{same_rows, valid_rows};
 use std::alloc::{AllocError, Global};
 use vx_array::{BitPart, Lanes, Validity};
 use vx_array_loops::Bits;
-use vx_types::Value;
+use vx_value::Value;
 
 /// Of so many rows of a condition, those at which it is true and not null. There is an answer where it has
 /// truth values in bits, or is one value in all rows.

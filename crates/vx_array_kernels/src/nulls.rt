@@ -12,7 +12,7 @@ use std::alloc::{AllocError, Global};
 use std::sync::Arc;
 use vx_array::{BitPart, Lanes, Validity};
 use vx_array_loops::Bits;
-use vx_types::Value;
+use vx_value::Value;
 
 /// Whether each row is null. There is an answer for one value in all rows, and for rows in
 /// buffers.

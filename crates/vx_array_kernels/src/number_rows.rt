@@ -15,7 +15,7 @@ use std::marker::Model;
 use vx_array::{Lanes, Part, Validity};
 use vx_array_build::Native;
 use vx_array_loops::{Bits, Number, tabulated, write_where};
-use vx_types::Value;
+use vx_value::Value;
 
 /// Numbers, and as many bits that say which of them are valid. Contracts see them as the rows.
 #[derive(Drop)]

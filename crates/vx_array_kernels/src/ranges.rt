@@ -11,7 +11,7 @@ use crate::pair::Pair;
 use std::alloc::{AllocError, Global};
 use vx_array::Lanes;
 use vx_array_loops::Comparison;
-use vx_types::FloatType;
+use vx_dtype::FloatType;
 
 /// A column beside its bounds, each with so many rows.
 #[derive(Clone, Copy)]

@@ -17,7 +17,7 @@ use std::alloc::{AllocError, Global};
 use std::marker::Model;
 use vx_array::{BitPart, Lanes, Validity};
 use vx_array_loops::Bits;
-use vx_types::Value;
+use vx_value::Value;
 
 /// Truth values, and as many that say which of them are valid. Contracts see them as the rows.
 #[derive(Drop)]

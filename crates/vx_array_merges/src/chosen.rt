@@ -9,7 +9,7 @@ ghost use Rattle.vx_array_kernels.specs.Choices.{case_rows, EachLong};
 use std::alloc::{AllocError, Global};
 use vx_array::{Array, Lanes};
 use vx_array_kernels::case_when;
-use vx_types::DType;
+use vx_dtype::DType;
 
 /// Of conditions and values in turn the value beside the first condition that is true, else the last
 /// column's value, else null. There is an answer where `case_when` has one. Asks columns of that many rows,

@@ -4,8 +4,9 @@ ghost use Rattle.vx_dtype.specs.Returns.{ReturnsOrOom};
 
 use std::alloc::Global;
 use vx_array::Array;
+use vx_dtype::VortexResult;
 use vx_eval::RowMask;
-use vx_types::{Column, VortexResult};
+use vx_value::Column;
 
 /// The column of each array's rows. Copies them, and refuses with `OutOfMemory` (1) alone.
 pub fn columns_of(alloc: Global, arrays: &[Array]) -> VortexResult<Vec<Column>>

@@ -14,8 +14,8 @@ use crate::turns::in_turn;
 use std::alloc::Global;
 use vx_array::Array;
 use vx_array_build::from_column;
+use vx_dtype::{DType, VortexResult};
 use vx_eval::first_match;
-use vx_types::{DType, VortexResult};
 
 /// At each row the value beside the first condition that is true there, else the ELSE value, else
 /// null, as an array of the type. A condition that is null counts as false. Asks at least one

@@ -15,8 +15,8 @@ use crate::turns::masks_in_turn;
 use std::alloc::{AllocError, Global};
 use vx_array::Array;
 use vx_array_build::from_column;
+use vx_dtype::{DType, VortexResult};
 use vx_eval::{RowMask, merge_compact, merge_runs};
-use vx_types::{DType, VortexResult};
 
 /// At each row the value of the first array whose mask is true there, as an array of the type and
 /// of as many rows; the last mask is that of the last array. Asks masks and arrays of one length, each

@@ -7,8 +7,8 @@ ghost use Rattle.vx_projection.specs.Defaults.{default_of};
 use std::alloc::{AllocError, Global};
 use std::sync::Arc;
 use vx_array::Lanes;
+use vx_dtype::DType;
 use vx_projection::default_value;
-use vx_types::DType;
 
 // So many rows that are the default of the type.
 pub(crate) fn defaults(alloc: Global, dtype: &DType, count: usize) -> Result<Lanes, AllocError>

@@ -10,8 +10,9 @@ use crate::defaults::defaults;
 use std::alloc::{AllocError, Global};
 use std::sync::Arc;
 use vx_array::Lanes;
+use vx_dtype::{DType, StructFields};
 use vx_projection::along::{has_root, parted};
-use vx_types::{DType, Field, StructFields};
+use vx_value::Field;
 
 // What is kept of the rows along the paths, in the same buffers, and one default in all rows of what no
 // path leads to. There is an answer where the structs on the way are in buffers with all their rows.

@@ -7,9 +7,10 @@ ghost use Rattle.vx_projection.specs.Kept.{kept_batch};
 use crate::kept::kept_along;
 use std::alloc::Global;
 use vx_array::Array;
+use vx_dtype::VortexResult;
 use vx_projection::along::lent;
 use vx_projection::read_referenced;
-use vx_types::{FieldPathSet, VortexResult};
+use vx_value::FieldPathSet;
 
 /// The rows with the values along the paths of [`FieldPathSet::iter`] alone, null structs on the way among
 /// them, and a default in place of all others, as [`read_referenced`] gives them.

@@ -7,7 +7,8 @@ ghost use Rattle.vx_value.specs.Views.{type_of};
 use crate::read::read_referenced_array;
 use std::alloc::Global;
 use vx_array::Array;
-use vx_types::{DType, FieldPathSet, VortexResult};
+use vx_dtype::{DType, VortexResult};
+use vx_value::FieldPathSet;
 
 /// What rows in typed buffers are read through: only what lies along the paths that are asked for, and only
 /// along paths that the reader allows.

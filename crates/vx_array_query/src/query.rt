@@ -12,9 +12,9 @@ use crate::split::run_split;
 use std::alloc::Global;
 use vx_array::Array;
 use vx_array_eval::apply_array;
+use vx_dtype::VortexResult;
 use vx_rewrite::{Pass, run_passes};
 use vx_tree::{BoundExpression, Expression};
-use vx_types::VortexResult;
 
 /// The rows of a query over columns in typed buffers, as `run_query` of `vx_query` gives them over a
 /// column: the source is bound to the batch's type, rewritten by the passes in their order, and

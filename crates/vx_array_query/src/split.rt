@@ -8,10 +8,10 @@ use std::alloc::Global;
 use vx_array::Array;
 use vx_array_eval::apply_array;
 use vx_array_scan::evaluate_split_array;
+use vx_dtype::VortexResult;
 use vx_query::optimize_partitions;
 use vx_query_split::split_by_fields;
 use vx_tree::BoundExpression;
-use vx_types::VortexResult;
 
 // What the tree gives over the batch: split by the fields of the scope that its nodes read, where
 // the batch is of structs and these cover the tree, else whole.

@@ -20,9 +20,9 @@ use std::alloc::Global;
 use vx_array::Array;
 use vx_array_loops::Bits;
 use vx_array_projection::ArrayReader;
+use vx_dtype::{VortexError, VortexResult};
 use vx_prune_tree::{ChunkStats, Verdict, verdict};
 use vx_scan::ScanPlan;
-use vx_types::{VortexError, VortexResult};
 
 /// The rows of the reader's batch at which the plan's source is true, null taken as false. Nothing is
 /// read where the statistics make the verdict sure: then no row is meant, or every row.

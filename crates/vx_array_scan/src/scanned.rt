@@ -15,8 +15,8 @@ use std::alloc::Global;
 use vx_array::Array;
 use vx_array_eval::apply_array;
 use vx_array_projection::ArrayReader;
+use vx_dtype::{VortexError, VortexResult};
 use vx_scan::ScanPlan;
-use vx_types::{VortexError, VortexResult};
 
 /// What the plan's tree gives over the reader's batch, of which the plan's paths alone are read: the
 /// partitions over what was read, joined, and the root over them, where the plan has a split, and

@@ -12,8 +12,8 @@ use std::alloc::Global;
 use vx_array::Array;
 use vx_array_eval::apply_array;
 use vx_array_loops::Bits;
+use vx_dtype::{DType, VortexError, VortexResult};
 use vx_scan::ScanPlan;
-use vx_types::{DType, VortexError, VortexResult};
 
 /// The rows of the batch at which the plan's source is true, null taken as false.
 ///

@@ -10,9 +10,9 @@ use std::alloc::Global;
 use vx_array::Array;
 use vx_array_build::struct_of;
 use vx_array_eval::apply_array;
+use vx_dtype::VortexResult;
 use vx_partition::BoundPartitionedExpr;
 use vx_tree::{BoundExpression, FieldName};
-use vx_types::VortexResult;
 
 /// What the split gives over the batch, a row for each of the batch's: each partition's array, and the root
 /// over the structs that these make, which share their buffers.

@@ -9,8 +9,9 @@ ghost use Rattle.vx_value.specs.Paths.{minimal_paths};
 use std::alloc::Global;
 use vx_array::Array;
 use vx_array_projection::read_referenced_array;
+use vx_dtype::VortexResult;
 use vx_prune_tree::ChunkStats;
-use vx_types::{FieldPathSet, VortexResult};
+use vx_value::FieldPathSet;
 
 /// What the batch has along the paths of [`FieldPathSet::iter`], in their order, as [`ChunkStats::of`] says
 /// of a column: its number of rows, and of each path how many of the values along it are null, and the least

@@ -10,7 +10,7 @@ ghost use Rattle.vx_array.specs.Shown.{masked, shown};
 use std::alloc::{AllocError, Global};
 use vx_array::{BitPart, Lanes, Validity};
 use vx_array_loops::Bits;
-use vx_types::Value;
+use vx_value::Value;
 
 // For each row whether it is true.
 pub(crate) fn true_rows(alloc: Global, lanes: &Lanes) -> Result<Bits, AllocError>

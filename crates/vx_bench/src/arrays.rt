@@ -5,7 +5,7 @@ use crate::query::Query;
 use std::alloc::Global;
 use vx_array_build::from_column;
 use vx_array_eval::apply_array;
-use vx_types::VortexResult;
+use vx_dtype::VortexResult;
 
 /// The digest of the query's rows over an array of its batch.
 pub fn over_arrays(alloc: Global, query: Query, rows: usize, repeats: u32) -> VortexResult<Digest> {

@@ -3,7 +3,8 @@ ghost use Rattle.std.specs.Prelude.{◌<◌};
 
 use crate::fields::{self, fields};
 use std::alloc::Global;
-use vx_types::{Column, DType, FieldNames, Nullability, StructFields, Value, VortexResult};
+use vx_dtype::{DType, FieldNames, Nullability, StructFields, VortexResult};
+use vx_value::{Column, Value};
 
 /// How the keys 0, 1 and 2 stand in the rows.
 #[derive(Clone, Copy, Debug, PartialEq, Eq)]

@@ -4,11 +4,12 @@ ghost use Rattle.std.specs.Prelude.{◌≡◌, ◌≢◌, ◌<◌};
 use crate::texts::parsed;
 use crate::{Status, refused};
 use std::alloc::Global;
+use vx_dtype::{DType, Nullability, PType, VortexResult};
 use vx_eval_masks::RowMask;
 use vx_projection::ColumnReader;
 use vx_prune::{ChunkStats, Verdict, select_rows, verdict};
 use vx_scan::{ScanPlan, plan};
-use vx_types::{Column, DType, FieldPath, FieldPathSet, Nullability, PType, Value, VortexResult};
+use vx_value::{Column, FieldPath, FieldPathSet, Value};
 
 /// What a range of numbers found.
 #[repr(C)]

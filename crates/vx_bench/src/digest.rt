@@ -1,5 +1,5 @@
 // What is told of a column.
-use vx_types::{Column, Value};
+use vx_value::{Column, Value};
 
 /// Some numbers that tell columns apart, of the values in the rows and in the items of structs.
 #[repr(C)]

@@ -4,8 +4,8 @@ ghost use Rattle.std.specs.Prelude.{◌<◌};
 use crate::fields::{fields, names, numbered, numbered_names, numbers};
 use crate::trees::Trees;
 use std::alloc::Global;
+use vx_dtype::{DType, FieldName, Nullability, PType, StructFields, VortexResult};
 use vx_tree::{EmptyOptions, Expression, Operator, Scalar, ScalarFnRef};
-use vx_types::{DType, FieldName, Nullability, PType, StructFields, VortexResult};
 
 /// A family of trees, with one of each size `n`.
 #[derive(Clone, Copy, Debug, PartialEq, Eq)]

@@ -1,6 +1,6 @@
 // Names and fields of scopes.
 use std::alloc::Global;
-use vx_types::{
+use vx_dtype::{
     DType, FieldName, FieldNames, Nullability, PType, StructFields, VortexError, VortexResult,
 };
 

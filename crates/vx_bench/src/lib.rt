@@ -28,8 +28,8 @@ use digest::Digest;
 use query::Query;
 use scans::scanned;
 use std::alloc::Global;
+use vx_dtype::{VortexError, VortexResult};
 use vx_eval::apply_bound;
-use vx_types::{VortexError, VortexResult};
 use way::Way;
 
 /// How a call ended.

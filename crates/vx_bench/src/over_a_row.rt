@@ -4,11 +4,12 @@ ghost use Rattle.vx_tree.specs.Views.{bound_of};
 
 use crate::subject::Subject;
 use std::alloc::Global;
+use vx_dtype::{DType, VortexResult};
 use vx_eval::apply_bound;
 use vx_query::run_query;
 use vx_rewrite::Pass;
 use vx_scan::plan;
-use vx_types::{Column, DType, Value, VortexResult};
+use vx_value::{Column, Value};
 
 /// The bound tree evaluated.
 pub fn evaluate(alloc: Global, subject: &Subject) -> VortexResult<()>

@@ -8,6 +8,7 @@ use crate::{over_a_row, splits};
 use std::alloc::Global;
 use std::fmt::Display;
 use std::hash::{DefaultHasher, Hash, Hasher};
+use vx_dtype::{DType, StructFields, VortexError, VortexResult};
 use vx_prune::{ChunkStats, bounds};
 use vx_query_split::split_by_fields;
 use vx_rewrite::{
@@ -20,7 +21,6 @@ use vx_rewrite_analysis::{
 use vx_rewrite_core::optimize_with;
 use vx_scan::plan;
 use vx_tree::{BoundExpression, ExactBoundExpr, Expression, Mask};
-use vx_types::{DType, StructFields, VortexError, VortexResult};
 
 /// A pass over a tree.
 #[derive(Clone, Copy, Debug, PartialEq, Eq)]

@@ -8,7 +8,7 @@ use crate::pass::Pass;
 use crate::subject::{Subject, visited};
 use crate::{Status, refused};
 use std::alloc::Global;
-use vx_types::VortexResult;
+use vx_dtype::VortexResult;
 
 /// Makes the tree of the family with that number and of that size, binds it, runs the pass with that
 /// number so often, each result let go before the next, and writes how many nodes a walk of the tree

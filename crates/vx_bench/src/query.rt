@@ -2,7 +2,8 @@
 use crate::batch::Keys;
 use crate::{batch, fields};
 use std::alloc::Global;
-use vx_types::{Column, VortexResult};
+use vx_dtype::VortexResult;
+use vx_value::Column;
 
 /// A query that is timed.
 #[derive(Clone, Copy, Debug, PartialEq, Eq)]

@@ -3,8 +3,8 @@ use crate::fields::{names, numbered};
 use crate::query::Query;
 use crate::trees::Trees;
 use std::alloc::Global;
+use vx_dtype::{FieldName, VortexResult};
 use vx_tree::{EmptyOptions, Expression, LikeOptions, Operator, Scalar, ScalarFnRef};
-use vx_types::{FieldName, VortexResult};
 
 impl Query {
     /// The query as a tree.

@@ -4,9 +4,9 @@ ghost use Rattle.std.specs.Prelude.{◌≡◌};
 use crate::digest::Digest;
 use crate::query::Query;
 use std::alloc::Global;
+use vx_dtype::VortexResult;
 use vx_projection::ColumnReader;
 use vx_scan::{ScanPlan, plan, scan};
-use vx_types::VortexResult;
 
 /// The digest of the query's column over its batch, by scans.
 pub fn scanned(alloc: Global, query: Query, rows: usize, repeats: u32) -> VortexResult<Digest> {

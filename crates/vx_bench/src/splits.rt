@@ -3,12 +3,12 @@ ghost use Rattle.vx_tree.specs.Trees.{WellTyped};
 ghost use Rattle.vx_tree.specs.Views.{bound_of};
 
 use std::alloc::Global;
+use vx_dtype::{StructFields, VortexError, VortexResult};
 use vx_rewrite::{
     BoundPartitionedExpr, covers, descendent_bound_annotations, free_fields,
     partition_bound_annotations,
 };
 use vx_tree::{BoundExpression, FieldName};
-use vx_types::{StructFields, VortexError, VortexResult};
 
 /// The tree split by the map of the fields that its nodes read, which has to cover it.
 pub fn by_map(alloc: Global, bound: &BoundExpression, fields: &StructFields) -> VortexResult<()>

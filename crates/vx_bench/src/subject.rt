@@ -5,8 +5,8 @@ ghost use Rattle.vx_tree.specs.Views.{bound_of};
 
 use crate::family::Family;
 use std::alloc::Global;
+use vx_dtype::{DType, Nullability, StructFields, VortexResult};
 use vx_tree::{BoundExpression, Expression};
-use vx_types::{DType, Nullability, StructFields, VortexResult};
 
 /// A tree, its scope, and the tree bound to it.
 #[derive(Debug)]

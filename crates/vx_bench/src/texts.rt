@@ -5,9 +5,9 @@ use crate::family::Family;
 use crate::{Status, refused};
 use std::alloc::Global;
 use std::fmt::Display;
+use vx_dtype::{VortexError, VortexResult};
 use vx_source::{ParseError, SourceText, parse};
 use vx_tree::Expression;
-use vx_types::{VortexError, VortexResult};
 
 /// What is done with a text.
 #[derive(Clone, Copy, Debug, PartialEq, Eq)]

@@ -1,11 +1,11 @@
 // Trees that are made from the leaves up.
 use std::alloc::Global;
 use vx_build::and_collect;
+use vx_dtype::{FieldNames, Nullability};
 use vx_tree::{
     CaseWhenOptions, Expression, FieldName, Operator, PackOptions, Scalar, ScalarFnRef,
     VortexError, VortexResult,
 };
-use vx_types::{FieldNames, Nullability};
 
 /// Trees that are being made: each function goes over the last ones, as many as it takes.
 #[derive(Drop)]

@@ -7,9 +7,10 @@ use crate::fields::{numbered, numbered_names, numbers};
 use crate::trees::Trees;
 use crate::{Status, refused};
 use std::alloc::Global;
+use vx_dtype::{DType, Nullability, VortexResult};
 use vx_prune::{ChunkStats, FieldStats, Verdict, verdict};
 use vx_tree::{BoundExpression, Expression, Operator};
-use vx_types::{DType, FieldPath, Nullability, Value, VortexResult};
+use vx_value::{FieldPath, Value};
 
 /// How many comparisons the conjunction joins, each of a field of its own.
 const CONJUNCTS: usize = 10;

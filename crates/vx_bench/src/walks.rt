@@ -4,8 +4,8 @@ ghost use Rattle.vx_walk.specs.Heights.{height_of};
 ghost use Rattle.vx_tree.specs.Views.{tree_of};
 
 use std::alloc::Global;
+use vx_dtype::VortexResult;
 use vx_tree::Expression;
-use vx_types::VortexResult;
 use vx_walk::{
     FoldDownContext, FoldUp, NodeExt, NodeFolderContext, Transformed, TraversalOrder,
     pre_order_visit_down,

@@ -13,7 +13,7 @@ use std::alloc::{AllocError, Global};
 use vx_rewrite::BoundPartitionedExpr;
 use vx_scan::ScanPlan;
 use vx_tree::{BoundExpression, FieldName};
-use vx_types::{Field, FieldPath, FieldPathSet};
+use vx_value::{Field, FieldPath, FieldPathSet};
 
 /// The plan: its scope, its tree and the tree's type, the paths that it reads, and, where it is split,
 /// the root and each partition with its name and type.

@@ -2,7 +2,7 @@
 use std::fmt;
 use std::fmt::{Display, Formatter, Write};
 use vx_source_types::write_name;
-use vx_types::{Field, FieldPath, FieldPathSet};
+use vx_value::{Field, FieldPath, FieldPathSet};
 
 /// The path as an expression says it: the scope, and each name behind a dot.
 #[derive(Clone, Copy)]

@@ -23,7 +23,7 @@ use vx_rewrite::FoldingRules;
 use vx_scan::{ScanPlan, plan_with};
 use vx_source::Placed;
 use vx_tree::DType;
-use vx_types::FieldPathSet;
+use vx_value::FieldPathSet;
 
 /// The plan of the expression over rows of the schema's type, by the folding rules, as JSON on one line. Fails at what
 /// can't be read, at the expression first; else at the first refusal, with its place; and for want of

@@ -10,9 +10,10 @@ use crate::rows::{RecordsTask, RowsCommand};
 use crate::tasks::selected_value;
 use std::alloc::Global;
 use vx_command_pages::bind;
+use vx_dtype::DType;
 use vx_rewrite_paths::referenced_field_paths;
 use vx_source::Placed;
-use vx_types::{DType, FieldPathSet};
+use vx_value::FieldPathSet;
 
 /// The paths of the records' type at which the command reads rows: those that the expression asks for, and what is selected.
 /// None where one of these is refused, or memory runs out, which then stops the command.

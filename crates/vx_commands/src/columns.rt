@@ -3,8 +3,8 @@ ghost use Rattle.std.specs.Prelude.{◌≡◌, length};
 
 use std::alloc::{AllocError, AllocFailed, Global};
 use vx_command_pages::nearest_field;
+use vx_dtype::{DType, FieldName, FieldNames, StructFields, VortexError, VortexResult};
 use vx_source::{Expected, ParseError, parse_type};
-use vx_types::{DType, FieldName, FieldNames, StructFields, VortexError, VortexResult};
 
 /// The type that is said of a column.
 #[derive(Clone, Copy, Debug)]

@@ -10,8 +10,8 @@ use vx_data::{
     CsvFormat, DataError, Guessing, JsonFormat, OtherFields, Recorded, WriteError,
     infer_csv_type_by, infer_json_type_by,
 };
+use vx_dtype::DType;
 use vx_records::RecordsError;
-use vx_types::DType;
 
 /// In what form records stand in a file.
 #[derive(Clone, Copy, Debug, PartialEq, Eq)]

@@ -7,8 +7,8 @@ use std::alloc::{AllocError, AllocFailed};
 use std::io::ErrorKind;
 use vx_command_pages::{CommandError, Span, Status};
 use vx_data::{DataError, WriteError};
+use vx_dtype::DType;
 use vx_records::RecordsError;
-use vx_types::DType;
 
 /// Why a command doesn't go over all records.
 #[derive(Debug, Drop)]

@@ -10,11 +10,11 @@ use crate::tasks::written;
 use std::alloc::Global;
 use std::io::Write;
 use vx_command_pages::bind;
+use vx_dtype::DType;
 use vx_prune::ChunkRecords;
 use vx_records::{Record, RecordReader};
 use vx_source::Placed;
 use vx_tree::BoundExpression;
-use vx_types::DType;
 
 /// An expression of which statistics of chunks tell something, and over how many chunks it goes.
 #[derive(Clone, Copy)]

@@ -13,10 +13,10 @@ use crate::records_query::RecordsQuery;
 use std::alloc::Global;
 use std::io::Write;
 use vx_command_pages::{CommandError, bind};
+use vx_dtype::DType;
 use vx_records::{RecordReader, filter_records};
 use vx_source::Placed;
 use vx_tree::BoundExpression;
-use vx_types::DType;
 
 /// Writes, of the first `limit` records, or of all where there are fewer, those of which the
 /// expression is true, each as it stands and on a line of its own, behind the records' heading.

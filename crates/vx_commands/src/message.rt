@@ -4,9 +4,9 @@ use std::fmt;
 use std::fmt::{Display, Formatter, Write};
 use vx_command_pages::{Help, Input, Message, Shown, Span};
 use vx_data::{DataError, WriteError};
+use vx_dtype::VortexError;
 use vx_records::{RecordFault, RecordsError};
 use vx_source::TypeText;
-use vx_types::VortexError;
 
 /// An error as a message to a person, with the place in the text underlined where it is of the
 /// expression or the schema, and no end of line behind it. Takes no memory.

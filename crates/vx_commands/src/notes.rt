@@ -2,9 +2,10 @@
 use std::fmt;
 use std::fmt::{Display, Formatter, Write};
 use vx_command_pages::Shown;
+use vx_dtype::DType;
 use vx_source::{Placed, Places, ScalarText};
 use vx_tree::{Expression, Operator, ScalarFnRef};
-use vx_types::{DType, Scalar, Value};
+use vx_value::{Scalar, Value};
 
 /// What is told of an expression, each on a line: of its first comparison with null, and of the first whole number that is
 /// read as a day or an instant. Takes no memory.

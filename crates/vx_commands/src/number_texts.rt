@@ -6,10 +6,11 @@ use std::fmt::{Display, Formatter, Write};
 use std::io::Read;
 use vx_command_pages::{Shown, UnfitLiteral};
 use vx_data::OtherFields;
+use vx_dtype::{DType, FieldName};
 use vx_records::{CsvRows, JsonRecords, RecordReader};
 use vx_source::parse;
 use vx_tree::{Expression, ScalarFnRef};
-use vx_types::{DType, FieldName, Value};
+use vx_value::Value;
 
 /// A column that is guessed to be texts, of which those that were looked at are numbers.
 #[derive(Debug, Drop)]

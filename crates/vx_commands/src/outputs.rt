@@ -3,8 +3,9 @@ use crate::table::Table;
 use std::alloc::Global;
 use std::io::Write;
 use vx_data::{CsvWriter, WriteError, write_json_lines};
+use vx_dtype::DType;
 use vx_records::RowWriter;
-use vx_types::{Column, DType};
+use vx_value::Column;
 
 /// In what form rows are written.
 #[derive(Clone, Copy, Debug, PartialEq, Eq)]

@@ -21,10 +21,10 @@ use vx_command_pages::{
     read_written,
 };
 use vx_data::{CsvFormat, DataError, JsonFormat, WriteError};
+use vx_dtype::DType;
 use vx_prune::ChunkRecords;
 use vx_records::{CsvRows, JsonRecords, RecordReader, Skipping};
 use vx_source::Placed;
-use vx_types::DType;
 
 /// What is done with records.
 #[derive(Clone, Copy, Debug, PartialEq, Eq)]

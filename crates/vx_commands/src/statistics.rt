@@ -1,9 +1,9 @@
 // Statistics of chunks, as records say them.
 use std::alloc::Global;
 use vx_data::{DataError, Expected, Fault};
+use vx_dtype::FieldName;
 use vx_prune::{ChunkRecords, ChunkStats, StatsError};
 use vx_records::Record;
-use vx_types::FieldName;
 
 /// What the record says of a chunk. Fails at more nulls than rows and at a greatest value below the least
 /// one, with the line of the record and the path in it, and for want of memory.

@@ -9,8 +9,9 @@ use std::fmt;
 use std::fmt::{Display, Formatter, Write};
 use vx_command_pages::{CommandError, Input, Shown, Span, Status};
 use vx_data::{DataError, Expected};
+use vx_dtype::VortexError;
 use vx_records::RecordsError;
-use vx_types::{Field, FieldPath, VortexError};
+use vx_value::{Field, FieldPath};
 
 /// Why a run ends early.
 #[derive(Debug, Drop)]

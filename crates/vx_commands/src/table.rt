@@ -6,7 +6,8 @@ use std::io::Write;
 use unicode_width::UnicodeWidthStr;
 use vx_command_pages::Shown;
 use vx_data::WriteError;
-use vx_types::{Column, DType, Value};
+use vx_dtype::DType;
+use vx_value::{Column, Value};
 
 /// A table that is made: its lines of cells, the names of the columns first.
 #[derive(Drop)]

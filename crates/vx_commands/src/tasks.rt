@@ -14,9 +14,9 @@ use std::alloc::Global;
 use std::io::Write;
 use vx_command_pages::{CommandError, Shown, explanation_of, read_over, read_written};
 use vx_data::WriteError;
+use vx_dtype::DType;
 use vx_records::RecordReader;
 use vx_source::{Placed, TypeText};
-use vx_types::DType;
 
 /// A command whose expression was read.
 #[derive(Clone, Copy)]

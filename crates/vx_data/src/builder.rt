@@ -6,7 +6,8 @@ ghost use Rattle.vx_value.specs.Views.{type_of, value_of};
 use crate::fault::{Fault, misfit};
 use std::alloc::Global;
 use std::marker::Model;
-use vx_types::{Column, DType, Value};
+use vx_dtype::DType;
+use vx_value::{Column, Value};
 
 /// The rows of a column that is being made, each a value of its type.
 #[derive(Debug, Drop)]

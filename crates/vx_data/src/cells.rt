@@ -6,7 +6,8 @@ use crate::expected::Expected;
 use crate::fault::Fault;
 use hex::FromHexError;
 use std::alloc::{AllocError, Global};
-use vx_types::{PType, Value};
+use vx_dtype::PType;
+use vx_value::Value;
 
 /// The number of that text, if it is a whole number in the range of the type: digits, with a minus before them where
 /// it is below zero.

@@ -4,7 +4,7 @@ use std::alloc::{AllocError, AllocFailed};
 use std::fmt::{Display, Formatter, Write};
 use std::{fmt, io};
 use thiserror::Error;
-use vx_types::{Field, FieldPath};
+use vx_value::{Field, FieldPath};
 
 /// What reading records refuses with.
 #[derive(Debug, Drop, Error)]

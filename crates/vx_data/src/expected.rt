@@ -2,7 +2,7 @@
 use std::fmt;
 use std::fmt::{Display, Formatter, Write};
 use thiserror::Error;
-use vx_types::{DType, PType};
+use vx_dtype::{DType, PType};
 
 /// What a record lacks at the place where it was refused, or a row where it can't be written.
 #[derive(Debug, Drop, Error)]

@@ -2,7 +2,8 @@
 use crate::error::{DataError, WriteError};
 use crate::expected::Expected;
 use std::alloc::{AllocError, AllocFailed, Global};
-use vx_types::{DType, FieldName, FieldPath, VortexResult};
+use vx_dtype::{DType, FieldName, VortexResult};
+use vx_value::FieldPath;
 
 /// What a record is refused with by those who don't know where it stands. Its names are gathered from the inside out.
 #[derive(Debug, Drop)]

@@ -19,9 +19,10 @@ use crate::kind::{Instants, Kind, Numbers};
 use crate::numbers::number_said;
 use std::alloc::{AllocError, Global};
 use std::sync::ArcStr;
+use vx_dtype::{DType, DecimalType, FloatType, Nullability, PType, TimeUnit, TimestampType};
 use vx_floats::read_float;
 use vx_literals::read_decimal;
-use vx_types::{DType, DecimalType, FloatType, Nullability, PType, TimeUnit, TimestampType, Value};
+use vx_value::Value;
 
 /// The kinds that are told of texts, and their types.
 #[derive(Debug, Drop)]

@@ -12,12 +12,13 @@ use crate::fault::{Fault, misread};
 use std::alloc::{AllocError, Global};
 use std::fmt;
 use std::fmt::{Display, Formatter, Write};
-use vx_floats::read_float;
+use vx_dtype::{DType, FloatType, Nullability, PType};
+use vx_floats::{Float, read_float};
 use vx_literals::{
     has_day_text, has_instant_text, read_day, read_decimal, read_instant, write_day, write_decimal,
     write_instant,
 };
-use vx_types::{DType, Float, FloatType, Nullability, PType, Value};
+use vx_value::Value;
 
 // The text of a number of a type.
 #[derive(Clone, Copy)]

@@ -23,7 +23,8 @@ use crate::{Buffer, BufferError};
 use std::alloc::Global;
 use vx_array::{Array, Validity};
 use vx_array_build::{booleans, struct_of};
-use vx_types::{Column, DType, StructFields, VortexError, VortexResult};
+use vx_dtype::{DType, StructFields, VortexError, VortexResult};
+use vx_value::Column;
 
 /// The array of that type whose rows these buffers have, so many of them: the rows of [`column_of`], or its
 /// refusal. Truth values, whole and floating-point numbers, days, instants and structs of them are read at

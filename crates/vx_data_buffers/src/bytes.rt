@@ -3,7 +3,8 @@ ghost use Rattle.std.specs.Prelude.{◌≡◌, ◌*◌, option_map};
 ghost use Rattle.vx_data_buffers.specs.Bytes.{bit_of, float_at, number_at, part, units_at};
 ghost use Rattle.vx_dtype.specs.declared.dtype.PType.TheVariants.{I32};
 
-use vx_types::{Float, FloatType, PType};
+use vx_dtype::{FloatType, PType};
+use vx_floats::Float;
 
 // Bit i, the least significant of a byte first.
 pub(crate) fn bit_of(bytes: &[u8], i: usize) -> Option<bool>

@@ -12,7 +12,8 @@ use crate::counts::buffer_count;
 use crate::values::value_at;
 use crate::{Buffer, BufferError};
 use std::alloc::Global;
-use vx_types::{Column, DType, Value};
+use vx_dtype::DType;
+use vx_value::{Column, Value};
 
 /// The column of that type whose rows these buffers have, so many of them.
 ///

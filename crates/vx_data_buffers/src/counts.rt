@@ -3,7 +3,7 @@ ghost use Rattle.std.specs.Prelude.{◌≡◌, IfSome};
 ghost use Rattle.vx_data_buffers.specs.Layout.{buffer_count, field_buffer_count};
 ghost use Rattle.vx_value.specs.Views.{fields_of, type_of};
 
-use vx_types::{DType, StructFields};
+use vx_dtype::{DType, StructFields};
 
 // How many buffers the column of the type has, if they can be counted.
 #[cycle(count)]

@@ -7,7 +7,7 @@ use crate::numbers::read;
 use std::alloc::Global;
 use vx_array::{Array, Validity};
 use vx_array_build::{FloatBits, Native, floats_by_bits};
-use vx_types::{FloatType, PType, VortexResult};
+use vx_dtype::{FloatType, PType, VortexResult};
 
 // The array of so many floating-point numbers of the format. None where the bytes have fewer.
 pub(crate) fn floats_in(

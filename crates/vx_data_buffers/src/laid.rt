@@ -14,7 +14,7 @@ use crate::spelled::number_bytes;
 use std::alloc::{AllocError, Global};
 use vx_array::{Array, BitPart, Floats, Lanes, Numbers, Validity};
 use vx_array_build::lane_type;
-use vx_types::DType;
+use vx_dtype::DType;
 
 /// Buffers of the array's rows, laid out and in the order in which [`array_of`](crate::array_of) reads them:
 /// what this reads of them is the array. Truth values, whole and floating-point numbers, days and instants are

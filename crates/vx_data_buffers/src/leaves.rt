@@ -11,7 +11,8 @@ use crate::buffer::bytes_at;
 use crate::bytes::{bit_of, float_at, number_at, units_at};
 use crate::fault::Fault;
 use std::alloc::Global;
-use vx_types::{FloatType, PType, Value};
+use vx_dtype::{FloatType, PType};
+use vx_value::Value;
 
 // Whether row i isn't null, as the validity buffer of that index says.
 pub(crate) fn is_valid(buffers: &[Buffer<'_>], at: usize, i: usize) -> Result<bool, Fault>

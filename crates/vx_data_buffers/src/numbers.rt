@@ -10,7 +10,7 @@ use crate::bytes::number_at;
 use std::alloc::{AllocError, Global};
 use vx_array::{Array, Validity};
 use vx_array_build::{Native, in_lanes, lane_type};
-use vx_types::{DType, PType, VortexResult};
+use vx_dtype::{DType, PType, VortexResult};
 
 // The array of so many values of the type, which lie in the bytes as numbers. None where there are fewer, or
 // the type's values don't.

@@ -7,7 +7,7 @@ use crate::rows::write_column;
 use crate::{Buffer, BufferError, LayoutError, column_of};
 use std::alloc::{AllocError, Global};
 use vx_array::Array;
-use vx_types::{Column, Value};
+use vx_value::{Column, Value};
 
 // The buffers of the array's rows. That they have them is known by reading them again.
 pub(crate) fn rows_laid(alloc: Global, array: &Array) -> Result<Vec<Vec<u8>>, LayoutError>

@@ -1,7 +1,9 @@
 // Rows as buffers, one by one.
 use crate::LayoutError;
 use std::alloc::{AllocError, Global};
-use vx_types::{DType, Float, FloatType, PType, StructFields, Value};
+use vx_dtype::{DType, FloatType, PType, StructFields};
+use vx_floats::Float;
+use vx_value::Value;
 
 // Adds the buffers of a column of the type with these rows. What stands below a null is null, too.
 #[cycle(write)]

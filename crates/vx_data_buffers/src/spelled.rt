@@ -7,7 +7,7 @@ ghost use Rattle.vx_data_buffers.specs.Laid.{AddsNumber};
 use std::alloc::{AllocError, Global};
 use vx_array::Numbers;
 use vx_array_build::Native;
-use vx_types::PType;
+use vx_dtype::PType;
 
 // The numbers in the width of the type. None where they are held in another one.
 pub(crate) fn number_bytes(

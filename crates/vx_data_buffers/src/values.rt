@@ -13,7 +13,8 @@ use crate::fault::Fault;
 use crate::leaves::{decimal_at, is_valid, octets_of, real_at, text_of, truth_at, whole_at};
 use crate::spans::{fixed_span, row_bytes, span};
 use std::alloc::Global;
-use vx_types::{DType, PType, StructFields, Value};
+use vx_dtype::{DType, PType, StructFields};
+use vx_value::Value;
 
 // The value of row i of the type's column, whose first buffer has that index.
 #[cycle(read)]

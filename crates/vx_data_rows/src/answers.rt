@@ -9,8 +9,9 @@ use std::alloc::{AllocError, Global};
 use std::fmt::Display;
 use std::io::Read;
 use vx_data::{CsvRecords, CsvWriter, JsonFile, WriteError, write_json_lines};
+use vx_dtype::DType;
 use vx_source_types::parse_type;
-use vx_types::{Column, DType};
+use vx_value::Column;
 
 /// What is called.
 #[derive(Clone, Copy)]

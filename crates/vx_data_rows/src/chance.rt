@@ -6,8 +6,9 @@ use crate::unread::Unread;
 use crate::values::value;
 use std::alloc::{AllocError, Global};
 use std::fmt::Display;
+use vx_dtype::DType;
 use vx_source_types::parse_type;
-use vx_types::{Column, DType, Value};
+use vx_value::{Column, Value};
 
 // More than a type by chance has inside one another.
 const ROOM: usize = 16;

@@ -6,7 +6,8 @@ use vx_data::{
     infer_json_type, infer_json_type_by, rows_from_csv, rows_from_csv_with, rows_from_json,
     rows_from_json_lines, write_csv, write_json_lines,
 };
-use vx_types::{Column, DType};
+use vx_dtype::DType;
+use vx_value::Column;
 
 /// The format of a file.
 #[derive(Clone, Copy)]

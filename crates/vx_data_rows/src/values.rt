@@ -1,8 +1,10 @@
 // Values by chance.
 use crate::numbers::Numbers;
 use std::alloc::{AllocError, Global};
+use vx_dtype::{DType, DecimalType, FloatType, PType, StructFields, TimeUnit};
+use vx_floats::Float;
 use vx_literals::{power_of_ten, units_a_second};
-use vx_types::{DType, DecimalType, Float, FloatType, PType, StructFields, TimeUnit, Value};
+use vx_value::Value;
 
 const TEXTS: [&str; 16] = [
     "",

@@ -13,8 +13,10 @@ ghost use Rattle.vx_eval.specs.Kernels.{is_between, ComputesRow, IsRange};
 
 use crate::rows::Rows;
 use std::alloc::Global;
+use vx_dtype::{DType, DecimalType, PType, VortexError, VortexResult};
+use vx_floats::{Arithmetic, Float};
 use vx_literals::power_of_ten;
-use vx_types::{Arithmetic, DType, DecimalType, Float, PType, Value, VortexError, VortexResult};
+use vx_value::Value;
 
 /// What is computed of two columns, of which the left one has the number type. Refuses with the
 /// fault of the first row that has one: `AddOverflow` (13) where the result is out of the type's

@@ -9,8 +9,9 @@ ghost use Rattle.vx_eval.specs.Columns.{rows_view, truth_datum, Evaluates};
 use crate::rows::Rows;
 use crate::truths::told;
 use std::alloc::Global;
+use vx_dtype::VortexResult;
 use vx_eval_like::begins_with;
-use vx_types::{Value, VortexResult};
+use vx_value::Value;
 
 /// Whether each text begins with the one beside it. Refuses with `OutOfMemory` (1) alone.
 pub fn starts_with<'a>(

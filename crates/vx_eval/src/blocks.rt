@@ -16,9 +16,10 @@ use crate::searches::searches;
 use crate::trees::evaluate;
 use std::alloc::Global;
 use std::sync::Arc;
+use vx_dtype::{VortexError, VortexResult};
 use vx_fn::ScalarFnRef;
 use vx_tree::BoundExpression;
-use vx_types::{Column, Value, VortexError, VortexResult};
+use vx_value::{Column, Value};
 
 // How many rows go through the whole tree before the next ones: so few that what the nodes make of
 // them stays in the processor's cache.

@@ -9,7 +9,8 @@ ghost use Rattle.vx_eval.specs.Columns.{rows_view, Evaluates};
 use crate::filling::tabulated;
 use crate::rows::Rows;
 use std::alloc::{AllocError, Global};
-use vx_types::{Value, VortexResult};
+use vx_dtype::VortexResult;
+use vx_value::Value;
 
 /// The number of each text's bytes. Refuses with `OutOfMemory` (1) alone.
 pub fn byte_length<'a>(alloc: Global, count: usize, input: &Rows) -> VortexResult<Rows<'a>>

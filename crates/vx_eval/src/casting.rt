@@ -7,7 +7,7 @@ ghost use Rattle.vx_fn.specs.Functions as functions;
 ghost use Rattle.vx_eval.specs.Columns.{rows_view, rows_of, Evaluates};
 
 use crate::rows::Rows;
-use vx_types::{DType, VortexError, VortexResult};
+use vx_dtype::{DType, VortexError, VortexResult};
 
 /// The values themselves, as values of the target type. Refuses with `CastNull` (14) and the first
 /// row whose value isn't one of it; takes no memory.

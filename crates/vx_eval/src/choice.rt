@@ -13,8 +13,8 @@ ghost use Rattle.vx_eval.specs.Choices.{conditions_in, values_in, alone, truths}
 use crate::merging::{merged, written};
 use crate::rows::Rows;
 use std::alloc::{AllocError, Global};
+use vx_dtype::VortexResult;
 use vx_eval_masks::{RowMask, preferred};
-use vx_types::VortexResult;
 
 /// A CASE over its conditions and values in turn, with ELSE last. Refuses with `OutOfMemory` (1)
 /// alone.

@@ -10,7 +10,7 @@ use crate::fields::item_row;
 use crate::numbers::{NumberTest, compared_by};
 use std::marker::Model;
 use vx_fn::Operator;
-use vx_types::Value;
+use vx_value::Value;
 
 /// The items at one place of structs that are lent, each to be compared with one value.
 #[derive(Drop)]

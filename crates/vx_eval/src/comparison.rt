@@ -19,8 +19,9 @@ use crate::rows::Rows;
 use crate::truths::told;
 use std::alloc::Global;
 use std::cmp::Ordering;
+use vx_dtype::VortexResult;
 use vx_fn::{BetweenOptions, Operator, StrictComparison};
-use vx_types::{Value, VortexResult};
+use vx_value::Value;
 
 /// The comparison of two columns. Asks one of the six comparisons.
 /// Refuses with `OutOfMemory` (1) alone.

@@ -10,7 +10,7 @@ use crate::compared::ComparedItem;
 use crate::constants::Constants;
 use std::alloc::{AllocError, Global};
 use std::marker::Model;
-use vx_types::Value;
+use vx_value::Value;
 
 /// Comparisons of lent items, joined by Kleene's And: they are told in one walk of the rows, and of
 /// a row no more of them than up to the first that is false.

@@ -5,7 +5,7 @@ ghost use Rattle.vx_value.specs.Views.{value_of};
 ghost use Rattle.vx_eval.specs.Columns.{truth_datum};
 
 use std::marker::Model;
-use vx_types::Value;
+use vx_value::Value;
 
 /// Null, false and true, to be lent by a column that holds no values of its own.
 #[derive(Drop)]

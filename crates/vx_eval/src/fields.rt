@@ -15,9 +15,9 @@ use crate::constants::Constants;
 use crate::filling::{overwritten, tabulated};
 use crate::rows::{Rows, copied};
 use std::alloc::{AllocError, Global};
+use vx_dtype::{DType, FieldName, FieldNames, StructFields, VortexResult};
 use vx_fn::FieldSelection;
-use vx_types::{DType, FieldName, FieldNames, StructFields, Value, VortexResult};
-use vx_value::take_row;
+use vx_value::{Value, take_row};
 
 /// The first field of that name of each struct: lent by structs that are lent, moved out of those
 /// that are owned, and copied out of items that are lent. Refuses with `OutOfMemory` (1) alone.

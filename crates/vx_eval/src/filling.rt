@@ -7,7 +7,8 @@ ghost use Rattle.vx_eval.specs.Kernels.{AnswersRows, MakesRows};
 
 use crate::rows::Rows;
 use std::alloc::{AllocError, Global};
-use vx_types::{Value, VortexResult};
+use vx_dtype::VortexResult;
+use vx_value::Value;
 
 /// What the function gives at each row, as a column. Refuses with `OutOfMemory` (1) alone.
 pub fn tabulated<'a, F: Fn(usize) -> Result<Value, AllocError>>(

@@ -8,7 +8,7 @@ ghost use Rattle.vx_eval.specs.Columns.{rows_view, truth_datum, Evaluates};
 use crate::rows::Rows;
 use crate::truths::told;
 use std::alloc::Global;
-use vx_types::VortexResult;
+use vx_dtype::VortexResult;
 
 /// The And of two columns; of comparisons that wait to be asked for, one that waits, too. Refuses
 /// with `OutOfMemory` (1) alone.

@@ -11,7 +11,8 @@ ghost use Rattle.vx_eval.specs.Columns.{rows_views, each_row, AllLong};
 use crate::choice::first_true;
 use crate::rows::Rows;
 use std::alloc::Global;
-use vx_types::{Column, DType, VortexResult};
+use vx_dtype::{DType, VortexResult};
+use vx_value::Column;
 
 /// At each row the value beside the first condition that is true there, else the ELSE value, else
 /// null, as a column of the type. A condition that is null counts as false. Asks at least one

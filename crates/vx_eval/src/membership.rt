@@ -13,7 +13,8 @@ use crate::rows::Rows;
 use crate::truths::told;
 use elements::ElementSet;
 use std::alloc::Global;
-use vx_types::{Value, VortexResult};
+use vx_dtype::VortexResult;
+use vx_value::Value;
 
 // Of at most so many elements or look-ups no set is made: to walk along them costs less.
 const FEW: usize = 16;

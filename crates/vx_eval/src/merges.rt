@@ -15,8 +15,9 @@ ghost use Rattle.vx_eval.specs.FirstMerged.{masks_in, columns_in, InSomeMask, fi
 use crate::merging::merged;
 use crate::rows::Rows;
 use std::alloc::{AllocError, Global};
+use vx_dtype::{DType, VortexResult};
 use vx_eval_masks::{Merging, RowMask};
-use vx_types::{Column, DType, VortexResult};
+use vx_value::Column;
 
 /// At each row the value of the first column whose mask is true there, as a column of the type and
 /// of as many rows; the last mask is that of the last column. Each run of a mask is put in its

@@ -8,8 +8,9 @@ ghost use Rattle.vx_eval.specs.Choices.{SameRows};
 
 use crate::rows::Rows;
 use std::alloc::{AllocError, Global};
+use vx_dtype::VortexResult;
 use vx_eval_masks::{Merging, RowMask, place_at, place_of_all};
-use vx_types::{Value, VortexResult};
+use vx_value::Value;
 
 /// At each row the value of the column whose mask is true there, else null. A column that has every
 /// row is answered as it is; else what is owned is moved, and what is lent copied. Asks masks of

@@ -16,9 +16,11 @@ use crate::{
     nulls, text,
 };
 use std::alloc::Global;
+use vx_dtype::{DType, VortexResult};
+use vx_floats::Arithmetic;
 use vx_fn::{Operator, ScalarFnRef};
 use vx_tree::BoundExpression;
-use vx_types::{Arithmetic, DType, Scalar, VortexResult};
+use vx_value::Scalar;
 
 /// The function over its children's columns, or its fault over their rows.
 pub fn apply<'a>(

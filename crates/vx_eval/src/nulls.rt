@@ -16,8 +16,9 @@ use crate::filling::{overwritten, tabulated};
 use crate::rows::{Rows, copied};
 use crate::truths::told;
 use std::alloc::{AllocError, Global};
+use vx_dtype::{DType, VortexError, VortexResult};
 use vx_fn::FillNull;
-use vx_types::{DType, Value, VortexError, VortexResult};
+use vx_value::Value;
 
 /// Whether each value is null. Refuses with `OutOfMemory` (1) alone.
 pub fn is_null<'a>(alloc: Global, count: usize, input: &Rows) -> VortexResult<Rows<'a>>

@@ -8,7 +8,7 @@ ghost use Rattle.vx_eval.specs.Numbers.{holds_of, Tests};
 
 use crate::comparison::compared;
 use vx_fn::Operator;
-use vx_types::Value;
+use vx_value::Value;
 
 /// A number, and in which orders to it the test holds of another one.
 #[derive(Clone, Copy)]

@@ -6,9 +6,9 @@ ghost use Rattle.vx_tree.specs.Trees.{node_types, EachWellTyped};
 ghost use Rattle.vx_tree.specs.Views.{bound_of, bounds_of};
 ghost use Rattle.vx_eval.specs.PackedItem.{place_in_node, place_taken, TakesOut};
 
+use vx_dtype::FieldName;
 use vx_fn::ScalarFnRef;
 use vx_tree::BoundExpression;
-use vx_types::FieldName;
 
 /// Where the item that the function takes out of its child stands in what the child packs, where
 /// the child is a `pack`.

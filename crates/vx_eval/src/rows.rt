@@ -17,11 +17,11 @@ use crate::filling::made_behind;
 use crate::truths::{mask_of, truth_at, truth_of, truth_value};
 use std::alloc::{AllocError, Global};
 use std::sync::Arc;
+use vx_dtype::{DType, VortexResult};
 use vx_eval_masks::{
     Merging, RowMask, push_moved, push_repeated, push_with, write_moved, write_repeated, write_with,
 };
-use vx_types::{Column, DType, Value, VortexResult};
-use vx_value::TakeRow;
+use vx_value::{Column, TakeRow, Value};
 
 /// The values of a column, row by row: lent, or its own to move.
 #[derive(Drop)]

@@ -7,7 +7,7 @@ ghost use Rattle.vx_eval.specs.Searches.{is_long, is_long_list, is_search, searc
 
 use vx_fn::ScalarFnRef;
 use vx_tree::BoundExpression;
-use vx_types::Value;
+use vx_value::Value;
 
 // A list of more elements than these is made ready for look-ups once, and not anew for each block of rows.
 const LONG: usize = 64;

@@ -13,9 +13,10 @@ use crate::constants::Constants;
 use crate::rows::Rows;
 use crate::truths::told;
 use std::alloc::Global;
+use vx_dtype::VortexResult;
 use vx_eval_like::{Pattern, is_like};
 use vx_fn::LikeOptions;
-use vx_types::{Value, VortexResult};
+use vx_value::Value;
 
 /// Whether each text is like the pattern beside it. One pattern for all rows is read once.
 /// Refuses with `OutOfMemory` (1) alone.

@@ -16,9 +16,10 @@ use crate::packed::item_place;
 use crate::rows::Rows;
 use std::alloc::Global;
 use std::slice;
+use vx_dtype::{VortexError, VortexResult};
 use vx_fn::ScalarFnRef;
 use vx_tree::BoundExpression;
-use vx_types::{Value, VortexError, VortexResult};
+use vx_value::Value;
 
 // What is the same at each node of a tree: the rows that it is evaluated over.
 #[derive(Clone, Copy)]

@@ -10,8 +10,9 @@ ghost use Rattle.vx_eval.specs.Kernels.{TellsRows, TestsRows};
 use crate::constants::Constants;
 use crate::rows::Rows;
 use std::alloc::{AllocError, Global};
+use vx_dtype::VortexResult;
 use vx_eval_masks::RowMask;
-use vx_types::{Value, VortexResult};
+use vx_value::Value;
 
 /// What the function tells of each row. Refuses with `OutOfMemory` (1) alone.
 pub fn told<'a, F: Fn(usize) -> Option<bool>>(

@@ -6,7 +6,8 @@ ghost use Rattle.vx_eval_masks.specs.Choices.{IsLimit, prefers_runs, run_limit, 
 
 use crate::bits;
 use crate::mask::RowMask;
-use vx_types::{Column, VortexResult};
+use vx_dtype::VortexResult;
+use vx_value::Column;
 
 /// How the true rows of a mask are gone over: each run as a whole, its end being looked for
 /// first, or one row after another.

@@ -5,7 +5,7 @@ ghost use Rattle.vx_value.specs.Views.{value_of};
 ghost use Rattle.vx_eval_masks.specs.Merges.{values_of, IsWritten, AnswersIn};
 
 use std::alloc::AllocError;
-use vx_types::Value;
+use vx_value::Value;
 
 /// Moves the values of the true rows into these rows. Asks a mask and values of as many rows.
 pub fn write_moved(rows: &mut Vec<Value>, mask: &[bool], mut values: Vec<Value>)

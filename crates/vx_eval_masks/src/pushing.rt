@@ -8,7 +8,7 @@ ghost use Rattle.vx_eval_masks.specs.Merges.{values_of, each_row, AnswersIn, Hol
 use crate::choice::Merging;
 use crate::mask::RowMask;
 use std::alloc::AllocError;
-use vx_types::Value;
+use vx_value::Value;
 
 /// Puts the values from that row on, as far as the mask is true, behind others, and gives the row
 /// behind them. They are moved out, and the values behind them stay. Asks a mask that is true at

@@ -16,10 +16,10 @@ use std::alloc::{AllocError, Global};
 use vx_array::Array;
 use vx_array_build::struct_of;
 use vx_array_projection::{ArrayReader, read_referenced_array};
-use vx_types::{
-    DType, Field, FieldName, FieldNames, FieldPathSet, Nullability, StructFields, VortexError,
-    VortexResult,
+use vx_dtype::{
+    DType, FieldName, FieldNames, Nullability, StructFields, VortexError, VortexResult,
 };
+use vx_value::{Field, FieldPathSet};
 
 #[cfg(test)]
 mod tests;

@@ -5,7 +5,8 @@ use std::test::Fail;
 use vx_array::Array;
 use vx_array_build::primitive;
 use vx_array_projection::ArrayReader;
-use vx_types::{FieldName, FieldNames, FieldPath, FieldPathSet, VortexResult};
+use vx_dtype::{FieldName, FieldNames, VortexResult};
+use vx_value::{FieldPath, FieldPathSet};
 
 fn numbers(alloc: Global, first: i32, second: i32) -> VortexResult<Array> {
     primitive(alloc, vec![in alloc; first, second]?, None)

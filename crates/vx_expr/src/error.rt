@@ -4,11 +4,11 @@ ghost use Rattle.vx_expr.specs.Errors.{of_no_statement, of_over_error, of_parse_
 ghost use Rattle.vx_expr.specs.declared.error.Error.TheVariants.{OutOfMemory};
 
 use std::alloc::{AllocError, AllocFailed};
+use vx_dtype::VortexError;
 use vx_source::{OverError, ParseError};
 use vx_sql::Unsupported;
 use vx_sql_parser::SqlError;
 use vx_sql_plan::NoStatement;
-use vx_types::VortexError;
 
 /// Why a call of this crate gave nothing.
 #[derive(Debug, Drop, thiserror::Error)]

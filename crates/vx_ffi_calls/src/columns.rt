@@ -4,8 +4,9 @@ ghost use Rattle.vx_ffi_calls.specs.RowPages.{lines_of};
 
 use std::alloc::Global;
 use vx_data::{WriteError, write_json_lines};
+use vx_dtype::DType;
 use vx_records::RowWriter;
-use vx_types::{Column, DType};
+use vx_value::Column;
 
 /// Columns in the order in which they were written.
 #[derive(Drop)]

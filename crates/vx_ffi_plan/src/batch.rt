@@ -12,8 +12,8 @@ use crate::scan_stop::buffer_stop;
 use std::alloc::Global;
 use vx_array::Array;
 use vx_data_buffers::{Buffer, array_of};
+use vx_dtype::DType;
 use vx_ffi_calls::CallError;
-use vx_types::DType;
 
 /// A batch, as a call is given it.
 #[derive(Clone, Copy, Debug)]

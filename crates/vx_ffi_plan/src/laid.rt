@@ -20,8 +20,8 @@ use std::alloc::Global;
 use vx_array::Array;
 use vx_array_build::filter;
 use vx_data_buffers::buffers_of;
+use vx_dtype::DType;
 use vx_ffi_calls::CallError;
-use vx_types::DType;
 
 /// What the plan's expression means at each row of the batch in the buffers, as a column in buffers. Stops as
 /// a scan into lines does, and where the values can't be laid out, as [`buffers_of`] refuses them.

@@ -15,7 +15,7 @@ use std::alloc::Global;
 use vx_array::Array;
 use vx_data::write_json_lines;
 use vx_ffi_calls::CallError;
-use vx_types::Column;
+use vx_value::Column;
 
 /// What the plan's expression means at each row of the batch in the buffers, as a line of JSON each. Stops
 /// where the buffers have no batch of so many rows of the plan's type, as

@@ -21,7 +21,7 @@ use vx_ffi_calls::{CallError, Given, Place, Status, place_of};
 use vx_places::{Place as NodePlace, first_fault_at};
 use vx_records::{RecordFault, RecordsError};
 use vx_source::TypeText;
-use vx_types::Column;
+use vx_value::Column;
 
 /// What stops a scan whose buffers have no batch, with the row that it is on.
 pub(crate) fn buffer_stop(alloc: Global, error: &BufferError) -> CallError

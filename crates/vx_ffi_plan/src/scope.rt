@@ -9,9 +9,9 @@ ghost use Rattle.vx_ffi_plan.specs.Kept.{IsPlanTypePage, IsScopePage};
 
 use crate::kept::KeptPlan;
 use std::alloc::{AllocError, Global};
+use vx_dtype::DType;
 use vx_ffi_calls::{Answer, CallError, Status, ended};
 use vx_source::TypeText;
-use vx_types::DType;
 
 /// Answers the type of the plan's batches, as source text on a line. Stops only where memory runs out.
 pub fn answer_scope(

@@ -16,8 +16,8 @@ use std::alloc::{AllocError, Global};
 use vx_array::Array;
 use vx_array_loops::{Bits, tabulated};
 use vx_array_scan::select_array;
+use vx_dtype::DType;
 use vx_ffi_calls::CallError;
-use vx_types::DType;
 
 /// At which rows of the batch in the buffers the plan's expression is true, as a byte for each: 1 where it
 /// is, and 0 where it is false or null. Stops at an expression of another type than truth values; where the

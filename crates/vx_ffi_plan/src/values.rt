@@ -15,9 +15,9 @@ use std::alloc::Global;
 use vx_array::Array;
 use vx_array_projection::ArrayPlanReader;
 use vx_array_scan::scan_array;
+use vx_dtype::VortexResult;
 use vx_ffi_calls::CallError;
 use vx_scan::ScanPlan;
-use vx_types::VortexResult;
 
 /// What the plan gives of the batch, which is of its type, in each row. Stops at the first fault of
 /// the plan's expression on the batch.

@@ -10,7 +10,7 @@ use crate::ScalarFnRef;
 use std::alloc::Global;
 use std::fmt;
 use std::fmt::{Display, Formatter, Write};
-use vx_types::{FieldName, VortexResult};
+use vx_dtype::{FieldName, VortexResult};
 
 /// The name of a function's child, as a text that takes no memory.
 #[derive(Clone, Copy)]

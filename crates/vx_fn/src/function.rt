@@ -7,7 +7,8 @@ use crate::{
     PackOptions, ScalarFnVTable,
 };
 use std::alloc::AllocError;
-use vx_types::{DType, FieldName, Scalar};
+use vx_dtype::{DType, FieldName};
+use vx_value::Scalar;
 
 /// A function with its options. A clone shares what its source points to, and equal functions hash
 /// alike.

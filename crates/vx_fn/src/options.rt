@@ -3,7 +3,7 @@ ghost use Rattle.std.specs.Prelude.{◌≡◌, ℕ, not, option_map};
 ghost use Rattle.std.specs.List.{IsDistinct};
 ghost use Rattle.std.specs.Str.{bytes_eq};
 
-use vx_types::{FieldNames, Nullability};
+use vx_dtype::{FieldNames, Nullability};
 
 /// The options of a function that needs none.
 #[derive(Clone, Copy, Debug, PartialEq, Eq, Hash)]

@@ -6,7 +6,7 @@ ghost use Rattle.vx_fn.specs.Selections.{kept_names, normalized};
 
 use crate::FieldSelection;
 use std::alloc::Global;
-use vx_types::{FieldName, FieldNames, VortexError, VortexResult, names_without};
+use vx_dtype::{FieldName, FieldNames, VortexError, VortexResult, names_without};
 
 impl FieldSelection {
     /// The names of the fields that are kept: those of an inclusion as they are given, or the

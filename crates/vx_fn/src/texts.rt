@@ -11,8 +11,7 @@ use crate::{
 };
 use std::fmt;
 use std::fmt::{Display, Formatter, Write};
-use vx_dtype::separator;
-use vx_types::{FieldName, Nullability};
+use vx_dtype::{FieldName, Nullability, separator};
 
 /// The name of the function, and its options between parentheses.
 impl Display for ScalarFnRef {

@@ -3,7 +3,7 @@ ghost use Rattle.std.specs.Prelude.{◌≡◌};
 ghost use Rattle.vx_value.specs.Types.{LogicalType};
 ghost use Rattle.vx_value.specs.Views.{type_of};
 
-use vx_types::DType;
+use vx_dtype::DType;
 
 /// What has a type: a type itself, or a node of a bound tree.
 pub trait Typed {

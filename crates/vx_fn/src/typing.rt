@@ -21,7 +21,7 @@ use rows::{
     literal_dtype, mask_dtype, not_dtype, truth_dtype, zip_dtype,
 };
 use std::alloc::Global;
-use vx_types::{DType, VortexError, VortexResult};
+use vx_dtype::{DType, VortexError, VortexResult};
 
 impl ScalarFnRef {
     /// The number of children.

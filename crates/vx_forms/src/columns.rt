@@ -10,7 +10,8 @@ ghost use Rattle.vx_forms.specs.Rows.{first_length};
 use crate::names::{IntoFieldName, unzip_named};
 use crate::native::Native;
 use std::alloc::Global;
-use vx_types::{Column, FieldNames, Nullability, VortexResult};
+use vx_dtype::{FieldNames, Nullability, VortexResult};
+use vx_value::Column;
 
 /// The column of these values, as `[1, 2]`, `[Some("a"), None]` or `[true]`; it is nullable where they
 /// are `Option`s. Refuses with `OutOfMemory` (1) alone.

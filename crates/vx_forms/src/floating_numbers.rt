@@ -9,7 +9,9 @@ ghost use Rattle.vx_value.specs.Types.{ty, atomic, floating, float};
 use crate::native::Native;
 use std::alloc::Global;
 use std::num::{f32_to_bits_with_nan, f64_to_bits_with_nan};
-use vx_types::{DType, Float, FloatType, Nullability, Value, VortexResult};
+use vx_dtype::{DType, FloatType, Nullability, VortexResult};
+use vx_floats::Float;
+use vx_value::Value;
 
 impl Native for f32 {
     ghost logical_type = { ty (atomic (floating FloatType.F32)) false };

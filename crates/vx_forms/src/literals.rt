@@ -3,10 +3,9 @@ ghost use Rattle.std.specs.Prelude.{◌≡◌, IfSome, is_some};
 ghost use Rattle.vx_dtype.specs.Returns.{Returns};
 ghost use Rattle.vx_forms.specs.Literals.{day_said, decimal_said, digit_count, instant_said, is_decimal_type, places};
 
+use vx_dtype::{DType, DecimalType, Nullability, TimestampType, VortexError, VortexResult};
 use vx_literals::{read_day, read_decimal, read_instant};
-use vx_types::{
-    DType, DecimalType, Nullability, Scalar, TimestampType, Value, VortexError, VortexResult,
-};
+use vx_value::{Scalar, Value};
 
 /// The day of a text as `2024-01-31`, of the type of days without null, as `date("2024-01-31")`. Refuses with
 /// `RowMisfit` (18) and row 0 a text that is of no day of the calendar in the years 1 to 9999. Takes no memory.

@@ -6,7 +6,7 @@ ghost use Rattle.vx_value.specs.Types.{Name};
 ghost use Rattle.vx_forms.specs.Named.{beside, named};
 
 use std::alloc::Global;
-use vx_types::{FieldName, FieldNames, VortexResult};
+use vx_dtype::{FieldName, FieldNames, VortexResult};
 
 /// What a name may be given as: a name, one that is lent, or its text.
 pub trait IntoFieldName: Drop + Sized {

@@ -7,7 +7,8 @@ ghost use Rattle.vx_value.specs.Types.{LogicalType, ty, atomic, truth, text, oct
 ghost use Rattle.vx_value.specs.Views.{type_of, value_of};
 
 use std::alloc::Global;
-use vx_types::{DType, Nullability, Value, VortexResult};
+use vx_dtype::{DType, Nullability, VortexResult};
+use vx_value::Value;
 
 /// A Rust value that stands for a value of one type: a truth value, a whole number, a floating-point
 /// number, whose NaNs are one, a text, bytes, or an `Option` of one of them, whose None is null.

@@ -10,7 +10,8 @@ ghost use Rattle.vx_value.specs.Views.{type_of};
 use crate::names::{IntoFieldName, unzip_named};
 use crate::native::Native;
 use std::alloc::Global;
-use vx_types::{DType, FieldNames, Nullability, Scalar, StructFields, VortexResult};
+use vx_dtype::{DType, FieldNames, Nullability, StructFields, VortexResult};
+use vx_value::Scalar;
 
 /// What a literal may be given as: a scalar, one that is lent, or a [`Native`] value.
 pub trait IntoScalar: Drop + Sized {

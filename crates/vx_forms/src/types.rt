@@ -8,7 +8,7 @@ ghost use Rattle.vx_forms.specs.Named.{beside, named};
 
 use crate::names::{IntoFieldName, unzip_named};
 use std::alloc::Global;
-use vx_types::{DType, FieldNames, Nullability, StructFields, VortexResult};
+use vx_dtype::{DType, FieldNames, Nullability, StructFields, VortexResult};
 
 /// The struct type of these fields, as `[("x", I32.into()), ("y", DType::Bool(Nullable))]`, in their
 /// order. A name may be repeated. Refuses with `OutOfMemory` (1) alone.

@@ -5,7 +5,8 @@ ghost use Rattle.vx_value.specs.Types.{ty, atomic, number, int};
 
 use crate::native::Native;
 use std::alloc::Global;
-use vx_types::{DType, Nullability, PType, Value, VortexResult};
+use vx_dtype::{DType, Nullability, PType, VortexResult};
+use vx_value::Value;
 
 impl Native for u8 {
     ghost logical_type = { ty (atomic (number U8)) false };

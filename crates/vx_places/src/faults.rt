@@ -12,8 +12,9 @@ ghost use Rattle.vx_places.specs.Walked.{AreSeen, AddsSeen, LeadsToNode, LeadsBe
 use crate::place::{Place, placed};
 use crate::values::{push_none, push_value};
 use std::alloc::Global;
+use vx_dtype::{VortexError, VortexResult};
 use vx_tree::BoundExpression;
-use vx_types::{Column, VortexError, VortexResult};
+use vx_value::Column;
 
 /// The place of the first fault of the tree on the batch, None exactly where `vx_eval::apply_bound`
 /// gives a column. Asks a well-typed tree.

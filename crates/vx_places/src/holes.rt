@@ -12,10 +12,11 @@ ghost use Rattle.vx_places.specs.Holes.{names_from, structs_of, hole, holes};
 ghost use Rattle.vx_places.specs.Walked.{AreSeen, IsSeen, SaysOrFaults, column_of, columns_of};
 
 use std::alloc::Global;
+use vx_dtype::{DType, FieldName, FieldNames, Nullability, VortexResult};
 use vx_eval::apply_bound;
 use vx_fn::ScalarFnRef;
 use vx_tree::BoundExpression;
-use vx_types::{Column, DType, FieldName, FieldNames, Nullability, VortexResult};
+use vx_value::Column;
 
 /// The column of the node's values, of which `scalar_fn` is the function, or its fault. Asks for what
 /// is seen of its children, of which none is evaluated again that has a column.

@@ -3,7 +3,7 @@ ghost use Rattle.std.specs.Prelude.{◌≡◌};
 ghost use Rattle.vx_places.specs.Nodes.{row_of};
 ghost use Rattle.vx_places.specs.Walked.{IsPlaced};
 
-use vx_types::{VortexError, VortexResult};
+use vx_dtype::{VortexError, VortexResult};
 
 /// What a node of a tree refused with, and where in the tree it stands.
 #[derive(Debug, Drop)]

@@ -10,8 +10,8 @@ ghost use Rattle.vx_places.specs.Walked.{Adds, LeadsToNode, LeadsBelow};
 
 use crate::place::{Place, placed};
 use std::alloc::Global;
+use vx_dtype::{DType, VortexResult};
 use vx_tree::{Expression, push_type_over};
-use vx_types::{DType, VortexResult};
 
 /// The place of the first refusal of binding the tree to that type, None exactly where
 /// [`Expression::bind`] gives a bound tree. Its cost is linear in the nodes, and no bound tree is

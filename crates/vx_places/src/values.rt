@@ -9,10 +9,11 @@ ghost use Rattle.vx_places.specs.Walked.{may_fault, AddsSeen, AreSeen, IsSeen, S
 
 use crate::holes::value_over_holes;
 use std::alloc::Global;
+use vx_dtype::VortexResult;
 use vx_eval::apply_bound;
 use vx_fn::{Operator, ScalarFnRef};
 use vx_tree::BoundExpression;
-use vx_types::{Column, VortexResult};
+use vx_value::Column;
 
 /// Adds the column of the node's values to the columns, or none where no node of the tree may fault.
 /// Asks for what is seen of its children.

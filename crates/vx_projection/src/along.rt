@@ -5,7 +5,8 @@ ghost use Rattle.vx_projection.specs.Kept.{others, rest_behind, rests};
 ghost use Rattle.vx_projection.specs.Wanted.{lent_paths};
 
 use std::alloc::{AllocError, Global};
-use vx_types::{Field, FieldName, FieldPathSet};
+use vx_dtype::FieldName;
+use vx_value::{Field, FieldPathSet};
 
 /// The paths of the set of which no other is a beginning, in their order, lent.
 pub fn lent<'a>(alloc: Global, paths: &'a FieldPathSet) -> Result<Vec<&'a [Field]>, AllocError>

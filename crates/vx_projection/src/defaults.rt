@@ -4,7 +4,9 @@ ghost use Rattle.vx_value.specs.Views.{data_view, fields_of, type_of, value_of};
 ghost use Rattle.vx_projection.specs.Defaults.{default_of, field_defaults, zero_of};
 
 use std::alloc::{AllocError, Global};
-use vx_types::{DType, Float, FloatType, StructFields, Value};
+use vx_dtype::{DType, FloatType, StructFields};
+use vx_floats::Float;
+use vx_value::Value;
 
 /// The default of the type: null where it is nullable, else false, 0, an empty text, no byte, no item,
 /// so many defaults, or the default of each field.

@@ -5,7 +5,8 @@ ghost use Rattle.vx_value.specs.Paths.{minimal_paths, path_of};
 ghost use Rattle.vx_value.specs.Views.{type_of};
 ghost use Rattle.vx_projection.specs.Lost.{first_lost, lost, unless_lost};
 
-use vx_types::{DType, Field, FieldPathSet, VortexError, VortexResult};
+use vx_dtype::{DType, VortexError, VortexResult};
+use vx_value::{Field, FieldPathSet};
 
 // Refuses the first path of the set that leads nowhere in the type.
 pub(crate) fn check_paths(dtype: &DType, paths: &FieldPathSet) -> VortexResult<()>

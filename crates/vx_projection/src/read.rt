@@ -11,7 +11,8 @@ use crate::along::lent;
 use crate::wanted::{Wanted, wanted_along};
 use std::alloc::{AllocError, Global};
 use std::sync::Arc;
-use vx_types::{Column, FieldPathSet, Value, VortexResult};
+use vx_dtype::VortexResult;
+use vx_value::{Column, FieldPathSet, Value};
 
 /// The batch with the values along the paths of [`FieldPathSet::iter`] alone, null structs on the way
 /// among them, and a default in place of all others: null where the type is nullable, else false, 0,

@@ -9,7 +9,8 @@ ghost use Rattle.vx_value.specs.Views.{type_of};
 use crate::lost::check_paths;
 use crate::read::read_referenced;
 use std::alloc::Global;
-use vx_types::{Column, DType, FieldPathSet, VortexResult};
+use vx_dtype::{DType, VortexResult};
+use vx_value::{Column, FieldPathSet};
 
 /// What a batch is read through: only what lies along the paths that are asked for, and only along
 /// paths that the reader allows.

@@ -6,7 +6,8 @@ ghost use Rattle.vx_projection.specs.Wanted.{each_taken, fields_wanted, lent_pat
 use crate::along::{has_root, parted};
 use crate::defaults::default_value;
 use std::alloc::{AllocError, Global};
-use vx_types::{DType, Field, StructFields, Value};
+use vx_dtype::{DType, StructFields};
+use vx_value::{Field, Value};
 
 // How much is wanted of a value.
 #[derive(Drop)]

@@ -16,8 +16,9 @@ use crate::record_type::record_type;
 use crate::stats_error::StatsError;
 use std::alloc::{AllocError, Global};
 use std::marker::Model;
+use vx_dtype::{DType, VortexResult};
 use vx_prune_tree::{ChunkStats, FieldStats, Inconsistency};
-use vx_types::{DType, Value, VortexResult};
+use vx_value::Value;
 
 /// What records of statistics say of chunks of rows of a type.
 ///

@@ -1,7 +1,8 @@
 // The places in the rows of a type.
 use std::alloc::{AllocError, Global};
+use vx_dtype::{DType, FieldName, StructFields, VortexResult};
 use vx_source_types::NameText;
-use vx_types::{DType, Field, FieldName, FieldPath, StructFields, VortexResult};
+use vx_value::{Field, FieldPath};
 
 /// A place in the rows of a type: what a record calls it, the path that leads there, and the type of
 /// what stands there.

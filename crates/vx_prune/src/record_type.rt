@@ -1,7 +1,7 @@
 // The type of a record of statistics.
 use crate::places::Place;
 use std::alloc::Global;
-use vx_types::{
+use vx_dtype::{
     DType, FieldName, FieldNames, Nullability, PType, StructFields, VortexError, VortexResult,
 };
 

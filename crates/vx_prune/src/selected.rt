@@ -14,11 +14,12 @@ ghost use Rattle.vx_prune_tree.specs.declared.verdicts.Verdict.TheVariants.{Unkn
 ghost use Rattle.vx_prune.specs.Selected.{IsRefusedWhereUnsure, IsSureWithout, SelectsRows};
 
 use std::alloc::Global;
+use vx_dtype::{DType, VortexError, VortexResult};
 use vx_eval_masks::RowMask;
 use vx_projection::PathReader;
 use vx_prune_tree::{ChunkStats, Verdict, verdict};
 use vx_scan::{ScanPlan, scan};
-use vx_types::{Column, DType, Value, VortexError, VortexResult};
+use vx_value::{Column, Value};
 
 /// The rows of the reader's batch at which the plan's source is true, null taken as false. Nothing is
 /// read where the statistics make the verdict sure: then no row is meant, or every row.

@@ -3,7 +3,7 @@ ghost use Rattle.std.specs.Prelude.{◌≡◌};
 ghost use Rattle.vx_prune.specs.declared.stats_error.StatsError.TheVariants.{OutOfMemory};
 
 use std::alloc::{AllocError, AllocFailed};
-use vx_types::FieldName;
+use vx_dtype::FieldName;
 
 /// Why a record isn't taken as statistics of a chunk.
 #[derive(Debug, Drop)]

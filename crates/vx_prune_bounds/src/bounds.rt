@@ -5,7 +5,8 @@ ghost use Rattle.vx_prune_bounds.specs.Bounds.{is_from, is_up_to, starts_within,
 ghost use Rattle.vx_prune_bounds.specs.Views.{endpoint_value};
 
 use crate::endpoint::Endpoint;
-use vx_types::{DType, Value};
+use vx_dtype::DType;
+use vx_value::Value;
 
 /// What is known of a value: whether it may be null, whether it may be another one, and between
 /// which ends it lies then. An end that isn't there says nothing, and one of another kind leaves a

@@ -4,7 +4,8 @@ ghost use Rattle.vx_value.specs.Types.{float, utf8};
 ghost use Rattle.vx_value.specs.Views.{value_of};
 ghost use Rattle.vx_prune_bounds.specs.Order.{at_most, below, comparable};
 
-use vx_types::{Float, Value};
+use vx_floats::Float;
+use vx_value::Value;
 
 /// A value that can be compared, lent: an end of bounds.
 #[derive(Clone, Copy, Debug)]

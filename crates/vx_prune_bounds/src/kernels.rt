@@ -11,7 +11,7 @@ use crate::bounds::Bounds;
 use crate::endpoint::Endpoint;
 use crate::spans::{Side, Span, span_end};
 use crate::truths::Truths;
-use vx_types::Arithmetic;
+use vx_floats::Arithmetic;
 
 impl<'a> Bounds<'a> {
     /// What null alone is within. Takes no memory.

@@ -8,7 +8,7 @@ use crate::bounds::Bounds;
 use crate::comparing::comparison_truths;
 use crate::truths::Truths;
 use vx_fn::Operator;
-use vx_types::Value;
+use vx_value::Value;
 
 /// What a search of a value within these bounds may give among the elements of a list: what the
 /// disjunction of `=` with each of them may give. So it is never true where the bounds meet no

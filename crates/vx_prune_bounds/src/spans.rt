@@ -5,7 +5,7 @@ ghost use Rattle.std.specs.Option.{option_and_then};
 ghost use Rattle.vx_prune_bounds.specs.Bounds.{of_both};
 ghost use Rattle.vx_prune_bounds.specs.Spans.{corner, is_nonzero, nearest, outer, reach, remainder_end, span_end};
 
-use vx_types::Arithmetic;
+use vx_floats::Arithmetic;
 
 // An end of bounds, and the side of it that is further out.
 #[derive(Clone, Copy)]

@@ -14,8 +14,9 @@ use crate::field_stats::FieldStats;
 use crate::reading::entry_along;
 use std::alloc::Global;
 use std::marker::Model;
+use vx_dtype::VortexResult;
 use vx_prune_bounds::Bounds;
-use vx_types::{Column, FieldPath, FieldPathSet, VortexResult};
+use vx_value::{Column, FieldPath, FieldPathSet};
 
 /// What is known of a chunk of rows: how many there are, and of some paths what is known of the
 /// values along them. Nothing sees that it is true, but for what [`ChunkStats::of`] reads.

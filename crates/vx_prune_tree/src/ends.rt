@@ -4,7 +4,7 @@ ghost use Rattle.vx_value.specs.Types.{Datum};
 ghost use Rattle.vx_value.specs.Views.{value_of};
 
 use crate::order::{comparable, higher, lower};
-use vx_types::Value;
+use vx_value::Value;
 
 // The least and the greatest of some values, each unless two of them can't be compared.
 #[derive(Clone, Copy)]

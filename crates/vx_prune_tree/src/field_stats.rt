@@ -7,7 +7,7 @@ ghost use Rattle.vx_prune_tree.specs.Stats.{field_bounds, is_known_as, known_end
 
 use crate::order::at_most;
 use vx_prune_bounds::{Bounds, Endpoint, is_interval};
-use vx_types::Value;
+use vx_value::Value;
 
 /// What is known of the values along a path of a chunk's rows. Nothing sees that it is true.
 #[derive(Debug, Drop)]

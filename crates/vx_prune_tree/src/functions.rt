@@ -12,12 +12,14 @@ ghost use Rattle.vx_prune_bounds.specs.Views.{bounds_view};
 ghost use Rattle.vx_prune_tree.specs.Bounding.{a_struct, binary_bounds, fn_bounds, item_bounds, unknown};
 ghost use Rattle.vx_prune_tree.specs.Cases.{is_of_children};
 
+use vx_dtype::DType;
+use vx_floats::Arithmetic;
 use vx_fn::{Operator, ScalarFnRef};
 use vx_prune_bounds::{
     Bounds, Truths, arithmetic_bounds, begun_truths, between_truths, choice_bounds,
     comparison_truths, fill_bounds, like_truths, mask_bounds,
 };
-use vx_types::{Arithmetic, DType, Scalar};
+use vx_value::Scalar;
 
 // Those of a value of which nothing is known.
 pub(crate) fn unknown<'a>() -> Bounds<'a>

@@ -6,7 +6,7 @@ ghost use Rattle.vx_prune_tree.specs.Reading.{next_end};
 ghost use Rattle.vx_prune_tree.specs.Lent.{lent_value};
 
 use vx_prune_bounds::Endpoint;
-use vx_types::Value;
+use vx_value::Value;
 
 // Whether the two can be compared, and the first comes before the second or is equal to it.
 pub(crate) fn at_most(v: &Value, w: &Value) -> bool

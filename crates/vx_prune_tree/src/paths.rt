@@ -11,10 +11,11 @@ ghost use Rattle.vx_prune_tree.specs.Cases.{is_that_path};
 
 use crate::chunk_stats::ChunkStats;
 use crate::field_stats::FieldStats;
+use vx_dtype::FieldName;
 use vx_fn::ScalarFnRef;
 use vx_prune_bounds::Bounds;
 use vx_tree::BoundExpression;
-use vx_types::{Field, FieldName};
+use vx_value::Field;
 
 // Whether the tree's values are the rows' along a path.
 #[cycle(is_path)]

@@ -11,7 +11,8 @@ ghost use Rattle.vx_prune_tree.specs.Stats.{at_path};
 ghost use Rattle.vx_prune_tree.specs.Lent.{at_places, datum_at, lent_value};
 
 use std::alloc::Global;
-use vx_types::{DType, Field, FieldName, StructFields, Value, VortexError, VortexResult};
+use vx_dtype::{DType, FieldName, StructFields, VortexError, VortexResult};
+use vx_value::{Field, Value};
 
 // The places along the path in rows of the type. Refuses a path that leads nowhere in it.
 pub(crate) fn places_along(alloc: Global, dtype: &DType, path: &[Field]) -> VortexResult<Vec<usize>>

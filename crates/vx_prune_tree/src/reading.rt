@@ -13,7 +13,8 @@ use crate::ends::Ends;
 use crate::field_stats::FieldStats;
 use crate::places::{places_along, value_at};
 use std::alloc::{AllocError, Global};
-use vx_types::{Column, FieldPath, Value, VortexResult};
+use vx_dtype::VortexResult;
+use vx_value::{Column, FieldPath, Value};
 
 // The path, and what the batch has along it. Refuses a path that leads nowhere in the batch's type.
 pub(crate) fn entry_along(

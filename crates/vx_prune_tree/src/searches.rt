@@ -11,7 +11,7 @@ use crate::functions::put_of_two;
 use vx_fn::ScalarFnRef;
 use vx_prune_bounds::{Bounds, search_truths};
 use vx_tree::BoundExpression;
-use vx_types::Value;
+use vx_value::Value;
 
 // Puts those of a function of two children in the place of the first child's: of a search in a list
 // that is a literal by its elements. That isn't inlined into the recursion over a tree.

@@ -10,10 +10,11 @@ ghost use Rattle.vx_value.specs.Types.{LogicalType};
 
 use crate::split::run_split;
 use std::alloc::Global;
+use vx_dtype::VortexResult;
 use vx_eval::apply_bound;
 use vx_rewrite::{Pass, run_passes};
 use vx_tree::{BoundExpression, Expression};
-use vx_types::{Column, VortexResult};
+use vx_value::Column;
 
 /// The rows of a query: the source is bound to the batch's type, rewritten by the passes in their
 /// order, and evaluated over the batch. With `split`, over a struct, the tree is split by the fields

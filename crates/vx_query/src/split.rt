@@ -10,11 +10,12 @@ ghost use Rattle.vx_tree.specs.Trees.{WellTyped, EachWellTyped, Over};
 ghost use Rattle.vx_tree.specs.Views.{bound_of, bounds_of};
 
 use std::alloc::Global;
+use vx_dtype::VortexResult;
 use vx_eval::apply_bound;
 use vx_query_split::{evaluate_split, split_by_fields};
 use vx_rewrite::{BoundPartitionedExpr, Optimize};
 use vx_tree::{BoundExpression, FieldName};
-use vx_types::{Column, VortexResult};
+use vx_value::Column;
 
 // What the tree gives over the batch: split by the fields of the scope that its nodes read, where
 // the batch is of structs and these cover the tree, else whole.

@@ -8,9 +8,9 @@ ghost use Rattle.vx_value.specs.Views.{type_of};
 
 use crate::reading::{Reads, read};
 use std::alloc::Global;
+use vx_dtype::{DType, VortexResult};
 use vx_partition::{BoundPartitionedExpr, partition_bound_met};
 use vx_tree::{BoundExpression, FieldName};
-use vx_types::{DType, VortexResult};
 
 /// The tree split by the fields of the scope that its nodes read: for each field a partition of what
 /// reads it alone, under its name, and the root over these. None exactly where the scope is no

@@ -7,10 +7,11 @@ ghost use Rattle.vx_tree.specs.Trees.{WellTyped, EachWellTyped, Over, EachOver};
 ghost use Rattle.vx_tree.specs.Views.{bound_of, bounds_of};
 
 use std::alloc::Global;
+use vx_dtype::{Nullability, VortexResult};
 use vx_eval::apply_bound;
 use vx_partition::BoundPartitionedExpr;
 use vx_tree::{BoundExpression, FieldName};
-use vx_types::{Column, Nullability, VortexResult};
+use vx_value::Column;
 
 /// What the split gives over the batch, a row for each of the batch's: each partition's column, and
 /// the root over the structs that these make.

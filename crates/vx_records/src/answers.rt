@@ -12,7 +12,7 @@ use vx_data::DataError;
 use vx_eval::apply_bound;
 use vx_places::first_fault_at;
 use vx_tree::BoundExpression;
-use vx_types::Column;
+use vx_value::Column;
 
 /// Records that were read together, and what an expression means at them.
 #[derive(Drop)]

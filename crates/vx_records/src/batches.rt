@@ -10,7 +10,8 @@ use crate::read::{Chunk, Parts, parts_of, read_chunk};
 use std::alloc::{AllocError, Global};
 use std::sync::Arc;
 use vx_data::DataError;
-use vx_types::{Column, DType, Value};
+use vx_dtype::DType;
+use vx_value::{Column, Value};
 
 /// Records that were read together, their rows as a column, and what stopped reading, if something
 /// did.

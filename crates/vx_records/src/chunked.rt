@@ -29,7 +29,7 @@ use std::num::NonZeroUsize;
 use vx_prune_tree::{ChunkStats, Verdict, verdict};
 use vx_rewrite_paths::referenced_field_paths;
 use vx_tree::BoundExpression;
-use vx_types::{Column, FieldPathSet};
+use vx_value::{Column, FieldPathSet};
 
 /// How many chunks of records there were, and over how many of them an expression was evaluated.
 #[derive(Clone, Copy, Debug, PartialEq, Eq)]

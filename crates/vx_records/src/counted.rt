@@ -12,7 +12,7 @@ use crate::answers::{ended, next_answers};
 use crate::{CHUNK, RecordReader, RecordsError};
 use std::alloc::Global;
 use vx_tree::BoundExpression;
-use vx_types::Value;
+use vx_value::Value;
 
 /// Reads the first `limit` records, or all where there are fewer, and says of how many of them the tree
 /// is true. Asks a well-typed tree over the type of the rows.

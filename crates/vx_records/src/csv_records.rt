@@ -7,7 +7,8 @@ use crate::{Record, RecordReader};
 use std::alloc::Global;
 use std::io::Read;
 use vx_data::{CsvFormat, CsvParser, CsvRecords, DataError, FirstRecord, OtherFields};
-use vx_types::{DType, FieldPathSet};
+use vx_dtype::DType;
+use vx_value::FieldPathSet;
 
 /// The records of a CSV file behind its header, if it has one, as rows of a type. In memory are one record and the
 /// reader's buffer.

@@ -5,7 +5,7 @@ ghost use Rattle.vx_records.specs.declared.error.RecordsError.TheVariants.{OutOf
 
 use std::alloc::{AllocError, AllocFailed};
 use vx_data::{DataError, WriteError};
-use vx_types::VortexError;
+use vx_dtype::VortexError;
 
 /// Why not all records were gone over.
 #[derive(Debug, Drop)]

@@ -10,8 +10,9 @@ use crate::portions::{Gone, Portion, in_portions};
 use crate::{RecordReader, RecordsError};
 use std::alloc::Global;
 use vx_data::WriteError;
+use vx_dtype::DType;
 use vx_tree::BoundExpression;
-use vx_types::{Column, DType};
+use vx_value::Column;
 
 /// What rows are written to, one column behind the other.
 pub trait RowWriter {

@@ -7,7 +7,7 @@ use crate::{Record, RecordReader};
 use std::alloc::Global;
 use std::io::BufRead;
 use vx_data::{DataError, JsonFile, JsonFormat, JsonParser, OtherFields};
-use vx_types::DType;
+use vx_dtype::DType;
 
 /// The records of a file of JSON as rows of a type. In memory is one record.
 #[derive(Drop)]

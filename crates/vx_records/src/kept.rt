@@ -13,7 +13,7 @@ use crate::{RecordReader, RecordsError};
 use std::alloc::{AllocError, Global};
 use vx_data::DataError;
 use vx_tree::BoundExpression;
-use vx_types::{Column, Value};
+use vx_value::{Column, Value};
 
 /// Of records that were read together those of which an expression is true: their rows as a column, and their lines. And
 /// how many were read, and what stopped reading, if something did.

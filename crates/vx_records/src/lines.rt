@@ -4,7 +4,7 @@ ghost use Rattle.vx_value.specs.Views.{value_of};
 ghost use Rattle.vx_records.specs.Chunks.{each_line, line_if_true, true_lines, texts_in, values_in};
 
 use std::alloc::{AllocError, Global};
-use vx_types::Value;
+use vx_value::Value;
 
 /// The texts beside which stands true, each on a line.
 pub(crate) fn lines_of(

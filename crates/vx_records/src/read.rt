@@ -8,7 +8,7 @@ ghost use Rattle.vx_records.specs.Records.{record_of, texts, rows};
 use crate::{Record, RecordReader};
 use std::alloc::{AllocError, Global};
 use vx_data::DataError;
-use vx_types::Value;
+use vx_value::Value;
 
 /// Records that were read one after another, and what stopped reading, if something did.
 #[derive(Drop)]

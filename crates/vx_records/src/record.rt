@@ -7,7 +7,8 @@ ghost use Rattle.vx_records.specs.Records.{record_of};
 
 use std::alloc::Global;
 use vx_data::{DataError, Expected, Fault};
-use vx_types::{DType, Value};
+use vx_dtype::DType;
+use vx_value::Value;
 
 /// A record of a file.
 #[derive(Debug, Drop)]

@@ -4,7 +4,7 @@ ghost use Rattle.std.specs.Prelude.{◌≡◌};
 use crate::{Record, RecordReader};
 use std::alloc::Global;
 use vx_data::DataError;
-use vx_types::DType;
+use vx_dtype::DType;
 
 /// The records of a reader, but those that it refuses for what they hold.
 #[derive(Drop)]

@@ -7,9 +7,10 @@ ghost use Rattle.vx_rewrite_rule_laws.specs.Folding.{arithmetic_given, is_litera
 ghost use Rattle.vx_tree.specs.Views.{bound_of};
 
 use crate::known::Known;
+use vx_floats::Arithmetic;
 use vx_rewrite_core::literal_value;
 use vx_tree::BoundExpression;
-use vx_types::{Arithmetic, Value};
+use vx_value::Value;
 
 // What is known of arithmetic: beside a number that leaves the other operand as it is, that operand. On
 // the left such a number counts only where operands may be exchanged.

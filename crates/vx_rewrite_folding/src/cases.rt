@@ -15,7 +15,7 @@ use std::alloc::{AllocError, Global};
 use vx_fn::{CaseWhenOptions, ScalarFnRef};
 use vx_rewrite_core::{first_two, literal_value};
 use vx_tree::{BoundExpression, VortexResult};
-use vx_types::Value;
+use vx_value::Value;
 
 // Whether a CASE over the children has an idle pair behind the first.
 pub(crate) fn has_idle_pair(children: &[BoundExpression]) -> bool

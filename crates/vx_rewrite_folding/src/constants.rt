@@ -14,11 +14,12 @@ ghost use Rattle.vx_tree.specs.Trees.{BoundTree, WellTyped};
 ghost use Rattle.vx_tree.specs.Views.{bound_of, bounds_of};
 
 use std::alloc::Global;
+use vx_dtype::{DType, Nullability, VortexError};
 use vx_eval::apply_bound;
 use vx_fn::ScalarFnRef;
 use vx_rewrite_core::literal_value;
 use vx_tree::{BoundExpression, VortexResult};
-use vx_types::{Column, DType, Nullability, Scalar, Value, VortexError};
+use vx_value::{Column, Scalar, Value};
 
 // Whether the function is computed where all children are literals.
 fn is_computed(scalar_fn: &ScalarFnRef) -> bool

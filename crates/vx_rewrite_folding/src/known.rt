@@ -19,10 +19,11 @@ use crate::nulls::{known_of_between, known_of_comparison};
 use crate::searches::known_of_search;
 use crate::single::{known_of_cast, known_of_mask, known_of_not, known_of_test, null_test};
 use std::alloc::Global;
+use vx_dtype::DType;
+use vx_floats::Arithmetic;
 use vx_fn::{Operator, ScalarFnRef};
 use vx_rewrite_core::{null_of, pair};
 use vx_tree::{BoundExpression, VortexResult};
-use vx_types::{Arithmetic, DType};
 
 // What stands for a node.
 #[derive(Clone, Copy)]

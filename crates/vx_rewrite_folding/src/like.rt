@@ -15,11 +15,12 @@ ghost use Rattle.vx_tree.specs.Views.{bound_of, bounds_of};
 use crate::constants::literal;
 use crate::known::{BeginningTest, Known};
 use std::alloc::Global;
+use vx_dtype::DType;
 use vx_eval_like::beginning_of;
 use vx_fn::{EmptyOptions, LikeOptions, ScalarFnRef};
 use vx_rewrite_core::{literal_value, pair};
 use vx_tree::{BoundExpression, VortexResult};
-use vx_types::{DType, Scalar, Value};
+use vx_value::{Scalar, Value};
 
 // What is known of a match of the type: with the literal pattern of a beginning it is a test of that.
 pub(crate) fn known_of_like<'a>(

@@ -9,7 +9,7 @@ ghost use Rattle.vx_tree.specs.Views.{bound_of};
 use crate::known::Known;
 use vx_rewrite_core::literal_value;
 use vx_tree::BoundExpression;
-use vx_types::Value;
+use vx_value::Value;
 
 // What is known of And, where true leaves the other side as it is, or of Or, where false does. Sides
 // are compared last, since a comparison may go through both.

@@ -10,9 +10,9 @@ ghost use Rattle.vx_tree.specs.Trees.{node};
 ghost use Rattle.vx_tree.specs.Views.{bound_of, bounds_of};
 
 use crate::known::Known;
+use vx_dtype::DType;
 use vx_rewrite_core::{literal_value, triple};
 use vx_tree::BoundExpression;
-use vx_types::DType;
 
 // What is known of a comparison of the type: with a null it is null.
 pub(crate) fn known_of_comparison<'a>(

@@ -10,9 +10,10 @@ ghost use Rattle.vx_tree.specs.Views.{bound_of, bounds_of};
 
 use crate::known::Known;
 use crate::nulls::known_of_comparison;
+use vx_dtype::DType;
 use vx_rewrite_core::{literal_value, pair};
 use vx_tree::BoundExpression;
-use vx_types::{DType, Value};
+use vx_value::Value;
 
 // What is known of a search of the type: with a null it is null, as a comparison is, and in a list without
 // elements there is nothing that is never null.

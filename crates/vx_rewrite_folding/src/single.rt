@@ -12,10 +12,11 @@ ghost use Rattle.vx_tree.specs.Views.{bound_of, bounds_of};
 
 use crate::known::Known;
 use std::alloc::Global;
+use vx_dtype::{DType, Nullability};
 use vx_fn::{EmptyOptions, ScalarFnRef};
 use vx_rewrite_core::{literal_value, only, pair};
 use vx_tree::{BoundExpression, VortexResult};
-use vx_types::{DType, Nullability, Value};
+use vx_value::Value;
 
 // What is known of a negation: of a negation, what that negates, and of a test for null the other test.
 pub(crate) fn known_of_not<'a>(children: &'a [BoundExpression]) -> Option<Known<'a>>

@@ -12,9 +12,10 @@ ghost use Rattle.vx_rewrite_paths.specs.Requests.{requested};
 use crate::request::{Front, Request};
 use crate::selection::asked_by;
 use std::alloc::Global;
+use vx_dtype::{FieldName, VortexResult};
 use vx_fn::{FieldSelection, ScalarFnRef};
 use vx_tree::BoundExpression;
-use vx_types::{FieldName, FieldPath, FieldPathSet, VortexResult};
+use vx_value::{FieldPath, FieldPathSet};
 
 /// The paths of its scope's row that the tree asks for, each at its first place, from left to right.
 /// Asks a well-typed tree.

@@ -6,7 +6,8 @@ ghost use Rattle.vx_rewrite_paths.specs.Asked.{each_alone, whole};
 ghost use Rattle.vx_rewrite_paths.specs.Requests.{front_path, requested};
 
 use std::alloc::Global;
-use vx_types::{FieldName, FieldPath, VortexResult};
+use vx_dtype::{FieldName, VortexResult};
+use vx_value::FieldPath;
 
 // The names that the paths of a request begin with, from the outermost field in. Each stands on the
 // stack beside the node that takes that field, so that a path takes no memory before it is recorded.

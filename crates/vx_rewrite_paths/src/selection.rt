@@ -8,8 +8,8 @@ ghost use Rattle.vx_rewrite_paths.specs.Requests.{requested, selected_of};
 
 use crate::request::{Front, Request};
 use std::alloc::Global;
+use vx_dtype::{DType, FieldName, FieldNames, StructFields, VortexResult};
 use vx_fn::FieldSelection;
-use vx_types::{DType, FieldName, FieldNames, StructFields, VortexResult};
 
 // What a selection asks its child for.
 #[derive(Drop)]

@@ -10,10 +10,11 @@ ghost use Rattle.vx_tree.specs.Trees.{node, WellTyped};
 ghost use Rattle.vx_tree.specs.Views.{bound_of, bounds_of};
 
 use std::alloc::Global;
+use vx_dtype::DType;
 use vx_fn::{CaseWhenOptions, ScalarFnRef};
 use vx_rewrite_core::{as_type, copies, first_two, literal_value, null_of, only};
 use vx_tree::{BoundExpression, VortexResult};
-use vx_types::{DType, Value};
+use vx_value::Value;
 
 // Whether something may be given at the node: at a CASE alone.
 pub(crate) fn may_give(node: &BoundExpression) -> bool

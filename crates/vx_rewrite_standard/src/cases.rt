@@ -11,7 +11,7 @@ use std::alloc::Global;
 use vx_fn::{CaseWhenOptions, EmptyOptions, FillNull, ScalarFnRef};
 use vx_rewrite_core::{literal_value, only};
 use vx_tree::{BoundExpression, VortexResult};
-use vx_types::Scalar;
+use vx_value::Scalar;
 
 // What a test for null looks at, and the values beside it.
 #[derive(Clone, Copy)]

@@ -11,9 +11,10 @@ ghost use Rattle.vx_rewrite_rule_laws.specs.Rules.{mask_node, child_named, child
 ghost use Rattle.vx_tree.specs.Views.{bound_of, bounds_of};
 
 use std::alloc::{AllocError, Global};
+use vx_dtype::{DType, FieldName, FieldNames, Nullability, StructFields};
 use vx_fn::{EmptyOptions, FieldSelection, Pack, PackOptions, ScalarFnRef};
 use vx_tree::{BoundExpression, VortexResult};
-use vx_types::{DType, FieldName, FieldNames, Nullability, Scalar, StructFields};
+use vx_value::Scalar;
 
 // A field of a pack is the first child of its name, under a mask where the pack is nullable.
 #[inline(never)]

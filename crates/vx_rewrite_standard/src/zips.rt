@@ -7,9 +7,10 @@ ghost use Rattle.vx_rewrite_rule_laws.specs.StandardGiven.{zip_given};
 ghost use Rattle.vx_tree.specs.Views.{bound_of};
 
 use std::alloc::Global;
+use vx_dtype::DType;
 use vx_rewrite_core::{as_type, literal_value};
 use vx_tree::{BoundExpression, VortexResult};
-use vx_types::{DType, Value};
+use vx_value::Value;
 
 // A choice by a literal that isn't null is the chosen branch.
 #[inline(never)]

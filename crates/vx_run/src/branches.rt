@@ -15,11 +15,12 @@ ghost use Rattle.vx_run.specs.Branches.{branches, never_then_zero};
 use crate::examples::{field_x, number};
 use std::alloc::Global;
 use vx_build::{is_null, lit, nested_case_when};
+use vx_dtype::{DType, VortexResult};
 use vx_query::run_query;
 use vx_rewrite::{BranchRules, Pass};
 use vx_rewrite_core::optimized;
 use vx_tree::{BoundExpression, Expression};
-use vx_types::{Column, DType, Scalar, VortexResult};
+use vx_value::{Column, Scalar};
 
 /// `vortex.fill_null($.x, 0)`, left by the branch rules of the CASE over a scope of that type. Asks
 /// the type of the rows of `coalesce`.

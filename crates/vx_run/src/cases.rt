@@ -11,8 +11,9 @@ ghost use Rattle.vx_run.specs.Cases.{cases};
 use crate::examples::{number, row_of, with_x, x_compared};
 use std::alloc::Global;
 use vx_build::nested_case_when;
+use vx_dtype::{DType, Nullability, PType, VortexResult};
 use vx_tree::{Expression, Operator};
-use vx_types::{Column, DType, Nullability, PType, Value, VortexResult};
+use vx_value::{Column, Value};
 
 /// `CASE WHEN $.x > 0 THEN 10 WHEN $.x > 3 THEN 20 ELSE 30 END`.
 pub fn source(alloc: Global) -> VortexResult<Expression>

@@ -7,8 +7,9 @@ ghost use Rattle.vx_run.specs.Coalesce.{coalesce};
 use crate::examples::{field_x, number, row_of, with_x};
 use std::alloc::Global;
 use vx_build::{case_when, is_null};
+use vx_dtype::{DType, Nullability, PType, VortexResult};
 use vx_tree::Expression;
-use vx_types::{Column, DType, Nullability, PType, Value, VortexResult};
+use vx_value::{Column, Value};
 
 /// `CASE WHEN $.x is null THEN 0 ELSE $.x END`.
 pub fn source(alloc: Global) -> VortexResult<Expression>

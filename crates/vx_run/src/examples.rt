@@ -9,10 +9,9 @@ ghost use Rattle.vx_tree.specs.Views.{tree_of};
 
 use std::alloc::Global;
 use vx_build::{binary, col, lit};
+use vx_dtype::{DType, FieldName, FieldNames, Nullability, StructFields, VortexResult};
 use vx_tree::{Expression, Operator};
-use vx_types::{
-    DType, FieldName, FieldNames, Nullability, Scalar, StructFields, Value, VortexResult,
-};
+use vx_value::{Scalar, Value};
 
 // The struct type with the one field x.
 pub fn with_x(alloc: Global, dtype: DType) -> VortexResult<DType>

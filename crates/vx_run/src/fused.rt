@@ -10,10 +10,11 @@ ghost use Rattle.vx_run.specs.Fused.{fused};
 
 use crate::kleene;
 use std::alloc::Global;
+use vx_dtype::{DType, VortexResult};
 use vx_query::run_query;
 use vx_rewrite::{Pass, find_between};
 use vx_tree::BoundExpression;
-use vx_types::{Column, DType, VortexResult};
+use vx_value::Column;
 
 /// `null <= $.x <= 5`, found in the expression of `kleene` over a scope of that type. Asks the type
 /// of its rows.

@@ -7,8 +7,9 @@ ghost use Rattle.vx_run.specs.Kleene.{kleene};
 use crate::examples::{number, row_of, with_x, x_compared};
 use std::alloc::Global;
 use vx_build::{and, lit};
+use vx_dtype::{DType, Nullability, PType, VortexResult};
 use vx_tree::{Expression, Operator};
-use vx_types::{Column, DType, Nullability, PType, Scalar, Value, VortexResult};
+use vx_value::{Column, Scalar, Value};
 
 /// `$.x >= null and $.x <= 5`.
 pub fn source(alloc: Global) -> VortexResult<Expression>

@@ -22,10 +22,11 @@ ghost use Rattle.vx_run.specs.declared.row.Row.TheVariants.{Branches, Fused, Sca
 use crate::row::Row;
 use crate::{branches, cases, coalesce, fused, kleene, scan};
 use std::alloc::Global;
+use vx_dtype::{DType, VortexResult};
 use vx_query::run_query;
 use vx_scan::ScanPlan;
 use vx_tree::{BoundExpression, Expression};
-use vx_types::{Column, DType, VortexResult};
+use vx_value::Column;
 
 /// The row's page. Refuses with `OutOfMemory` (1) alone.
 pub fn page(alloc: Global, row: Row) -> VortexResult<String>

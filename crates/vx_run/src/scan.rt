@@ -14,11 +14,10 @@ ghost use Rattle.vx_run.specs.Scan.{pair_or_null, scan, scanned_row, scanned_typ
 use crate::examples::number;
 use std::alloc::Global;
 use vx_build::{and, binary, col, get_item};
+use vx_dtype::{DType, FieldName, FieldNames, Nullability, PType, StructFields, VortexResult};
 use vx_scan::{ScanPlan, plan};
 use vx_tree::{Expression, Operator};
-use vx_types::{
-    Column, DType, FieldName, FieldNames, Nullability, PType, StructFields, Value, VortexResult,
-};
+use vx_value::{Column, Value};
 
 /// The plan of `$.a.x >= 1 and $.b < 5` over a scope of that type. Asks the type of the rows of
 /// [`batch`].

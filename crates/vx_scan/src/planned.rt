@@ -10,6 +10,7 @@ ghost use Rattle.vx_tree.specs.Views.{bound_of, tree_of};
 ghost use Rattle.vx_value.specs.Views.{type_of};
 
 use std::alloc::Global;
+use vx_dtype::{DType, VortexResult};
 use vx_partition::BoundPartitionedExpr;
 use vx_projection::ColumnReader;
 use vx_query_split::split_by_fields;
@@ -17,7 +18,7 @@ use vx_rewrite_core::{Rule, optimized};
 use vx_rewrite_paths::referenced_field_paths;
 use vx_rewrite_standard::BranchRules;
 use vx_tree::{BoundExpression, Expression, FieldName};
-use vx_types::{Column, DType, FieldPathSet, VortexResult};
+use vx_value::{Column, FieldPathSet};
 
 /// A query over batches of one type, made ready to be scanned: its tree, at no node of which a
 /// standard rule fits, the paths that this references, and its split by the fields that its nodes read.

@@ -12,10 +12,11 @@ ghost use Rattle.vx_value.specs.Views.{type_of};
 
 use crate::planned::ScanPlan;
 use std::alloc::Global;
+use vx_dtype::{VortexError, VortexResult};
 use vx_eval::apply_bound;
 use vx_projection::PathReader;
 use vx_query_split::evaluate_split;
-use vx_types::{Column, VortexError, VortexResult};
+use vx_value::Column;
 
 /// What the plan's tree gives over the reader's batch, of which the plan's paths alone are read: the
 /// partitions over what was read, joined, and the root over them, where the plan has a split, and

@@ -2,8 +2,8 @@
 ghost use Rattle.std.specs.Prelude.{◌≡◌};
 ghost use Rattle.vx_source_grammar.specs.Keywords.{beside, operator_words, value_words, case_words, keyword_of};
 
+use vx_dtype::FieldName;
 use vx_source_types::is_word;
-use vx_types::FieldName;
 
 /// A word that is no name where an operand or an operator is due.
 #[derive(Clone, Copy, PartialEq, Eq)]

@@ -8,8 +8,8 @@ ghost use Rattle.vx_source_operands.specs.Levels.{rank_of};
 ghost use Rattle.vx_source_operands.specs.OperandViews.{frame_of};
 
 use crate::operand::Operand;
+use vx_dtype::FieldName;
 use vx_fn::{LikeOptions, Operator, ScalarFnRef, StrictComparison};
-use vx_types::FieldName;
 
 /// A bracket that is open: where it begins, and how much nesting is allowed outside it.
 #[derive(Clone, Copy)]

@@ -5,9 +5,9 @@ ghost use Rattle.vx_fn.specs.Views.{function_of};
 ghost use Rattle.vx_source_grammar.specs.Keywords.{beside};
 ghost use Rattle.vx_source_grammar.specs.OptionReading.{names_function, option_readers, plain_functions, takes_options};
 
+use vx_dtype::FieldName;
 use vx_fn::{EmptyOptions, ScalarFnRef};
 use vx_source_types::is_word;
-use vx_types::FieldName;
 
 /// The function without options of that name.
 pub fn plain_function(name: &FieldName) -> Option<ScalarFnRef>

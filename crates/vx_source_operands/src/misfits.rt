@@ -6,10 +6,10 @@ ghost use Rattle.vx_source_types.specs.declared.expectation.Expected.TheVariants
 use crate::operators::{operator_at, strict, truth};
 use crate::parts::is_keyword;
 use crate::state::begun_at;
+use vx_dtype::FieldName;
 use vx_source_types::{
     Expected, Found, ParseError, Sign, Token, expected, field_name, is_word, length_of,
 };
-use vx_types::FieldName;
 
 // A part of options: a token, or names up to the sign that ends them.
 #[derive(Clone, Copy)]

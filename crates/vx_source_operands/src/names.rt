@@ -13,9 +13,9 @@ ghost use Rattle.vx_source_types.specs.declared.error.ParseError.TheVariants.{Ou
 
 use crate::parts::{behind_comma, is_keyword, labelled_last};
 use std::alloc::Global;
+use vx_dtype::{FieldName, FieldNames, Nullability};
 use vx_fn::{FieldSelection, PackOptions};
 use vx_source_types::{Found, ParseError, Sign, Token, field_name, is_word};
-use vx_types::{FieldName, FieldNames, Nullability};
 
 // The name that the options are.
 pub(crate) fn item(options: &[Found]) -> Option<&FieldName>

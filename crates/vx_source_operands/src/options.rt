@@ -17,9 +17,9 @@ use crate::refusals::refusal_in;
 use crate::scalars::scalar;
 use crate::types::dtype;
 use std::alloc::Global;
+use vx_dtype::FieldName;
 use vx_fn::ScalarFnRef;
 use vx_source_types::{Expected, Found, ParseError, is_word};
-use vx_types::FieldName;
 
 /// The function of that name with the options, where the bracket behind the last was found, and with as many brackets allowed
 /// inside one another in them as there is room. Refuses at the token that doesn't fit, or at the bracket, with what would have

@@ -4,7 +4,7 @@ ghost use Rattle.vx_source_types.specs.ValueViews.{draft_of};
 ghost use Rattle.vx_source_operands.specs.PlainViews.{plain_by};
 
 use vx_source_types::{Draft, Expected, open_literal, plain_literal};
-use vx_types::Scalar;
+use vx_value::Scalar;
 
 /// How a value is read that no type follows.
 #[derive(Clone, Copy, Debug, PartialEq, Eq)]

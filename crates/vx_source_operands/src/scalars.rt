@@ -9,7 +9,7 @@ ghost use Rattle.vx_source_types.specs.ScalarViews.{mode_of};
 use crate::context::Context;
 use crate::refusals::{bracket, no_later, refusal_in};
 use vx_source_types::{Expected, Found, ParseError, ScalarMode, ScalarStep, expected};
-use vx_types::Scalar;
+use vx_value::Scalar;
 
 // The scalar that the tokens say, where the bracket behind the last was found.
 pub(crate) fn scalar(context: Context, tokens: &[Found]) -> Result<Scalar, ParseError>

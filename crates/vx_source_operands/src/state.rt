@@ -10,9 +10,9 @@ use crate::context::Context;
 use crate::frame::{Bracket, Frame};
 use crate::operand::Operand;
 use std::alloc::{AllocError, Global};
+use vx_dtype::FieldName;
 use vx_fn::ScalarFnRef;
 use vx_source_types::{Draft, Expected, Found, ParseError, TypeReader, ValueReader};
-use vx_types::FieldName;
 
 /// What a type is read for.
 #[derive(Drop)]

@@ -10,8 +10,8 @@ ghost use Rattle.vx_source_operands.specs.Parts.{all_read, goes_on};
 use crate::context::Context;
 use crate::refusals::{bracket, no_later, refusal_in};
 use std::alloc::Global;
+use vx_dtype::DType;
 use vx_source_types::{Expected, Found, ParseError, TypeReader, TypeStep, expected};
-use vx_types::DType;
 
 // The type that the tokens say, where the bracket behind the last was found.
 pub(crate) fn dtype(context: Context, tokens: &[Found]) -> Result<DType, ParseError>

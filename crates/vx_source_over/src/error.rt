@@ -8,9 +8,9 @@ use std::alloc::{AllocError, AllocFailed};
 use std::error::Error;
 use std::fmt;
 use std::fmt::{Display, Formatter, Write};
-use vx_dtype::write_quoted;
+use vx_dtype::{DType, write_quoted};
 use vx_source_types::{Expected, ParseError, TypeText};
-use vx_types::{DType, Scalar, Value};
+use vx_value::{Scalar, Value};
 
 /// What reading a text over a scope refuses with.
 #[derive(Debug, Drop)]

@@ -10,8 +10,9 @@ ghost use Rattle.vx_source_over.specs.Views.{literal_with};
 
 use crate::OverError;
 use std::alloc::{AllocError, Global};
+use vx_dtype::{DType, Nullability};
 use vx_source_types::{Draft, plain_literal, typed_literal};
-use vx_types::{DType, Nullability, Scalar, Value};
+use vx_value::{Scalar, Value};
 
 // The literal of the scalar, which stands in these bytes: of the type that is wished, nullable where the value is null, and
 // where none is wished as it is read alone.

@@ -14,9 +14,10 @@ ghost use Rattle.vx_source_over.specs.declared.error.OverError.TheVariants.{OutO
 use crate::OverError;
 use std::alloc::{AllocError, Global};
 use std::sync::Arc;
+use vx_dtype::{DType, VortexError};
 use vx_fn::ScalarFnRef;
 use vx_tree::Expression;
-use vx_types::{DType, Scalar, VortexError};
+use vx_value::Scalar;
 
 // A tree, and its type over the scope if it has one.
 #[derive(Drop)]

@@ -8,7 +8,7 @@ ghost use Rattle.vx_source_over.specs.Peers.{is_branch, is_peer, is_arithmetic, 
 use vx_fn::{Operator, ScalarFnRef};
 use vx_source_parser::Places;
 use vx_tree::Expression;
-use vx_types::Scalar;
+use vx_value::Scalar;
 
 // What the other reading has at a node, and the bytes that the node was read from.
 #[derive(Clone, Copy)]

@@ -18,9 +18,9 @@ use crate::peers::{
 };
 use std::alloc::Global;
 use std::vec::IntoIter;
+use vx_dtype::DType;
 use vx_fn::ScalarFnRef;
 use vx_tree::Expression;
-use vx_types::DType;
 
 // What settling goes by: where memory is taken from, and the type of the scope.
 #[derive(Clone, Copy)]

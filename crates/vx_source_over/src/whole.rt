@@ -9,10 +9,10 @@ ghost use Rattle.vx_source_over.specs.Reading.{ReadsOver, GivesOver, RefusesOver
 use crate::OverError;
 use crate::written::{over, read_open};
 use std::alloc::Global;
+use vx_dtype::DType;
 use vx_source_parser::Placed;
 use vx_source_types::DEFAULT_NESTING;
 use vx_tree::Expression;
-use vx_types::DType;
 
 /// The expression that the text says over a scope of that type, nested at most 200 deep: as `parse` reads it, if that has a
 /// type; and else each number, text or null that was written without a type takes that of what it stands beside, as

@@ -15,10 +15,10 @@ use crate::OverError;
 use crate::peers::Beside;
 use crate::settle::{Over, settle};
 use std::alloc::Global;
+use vx_dtype::{DType, VortexError};
 use vx_source_parser::{Placed, Readings, parse_open, parse_with_places};
 use vx_source_types::ParseError;
 use vx_tree::Expression;
-use vx_types::{DType, VortexError};
 
 /// What was read of a text whose scope isn't known yet.
 #[derive(Drop)]

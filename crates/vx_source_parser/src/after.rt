@@ -13,13 +13,13 @@ use crate::comparisons::{
 use crate::numbers::after_number;
 use crate::predicates::{null_test, truth_test};
 use crate::steps::{keyword, negated, pending};
+use vx_floats::Arithmetic;
 use vx_fn::{EmptyOptions, ScalarFnRef};
 use vx_source_grammar::Keyword;
 use vx_source_operands::{
     Context, ExpressionStep, Frame, Mode, Operand, TypeFor, comparison, more, type_due,
 };
 use vx_source_types::{Expected, ParseError, Sign, Token, expected, refusal};
-use vx_types::Arithmetic;
 
 /// The token behind an operand that a postfix may follow.
 pub fn after_tight(

@@ -13,6 +13,7 @@ ghost use Rattle.vx_source_operands.specs.OperandViews.{frame_of, frames_of, ope
 
 use crate::postfix::field;
 use crate::values::literal;
+use vx_dtype::FieldName;
 use vx_source_grammar::{Keyword, as_keyword};
 use vx_source_operands::{
     Bracket, CasePart, Context, ExpressionStep, Frame, Mode, Operand, PlainValues, begun_at, more,
@@ -22,7 +23,7 @@ use vx_source_types::{
     Draft, Expected, ParseError, Sign, Token, ValueReader, ValueStep, expected, inside, refusal,
     suffixed,
 };
-use vx_types::{FieldName, Value};
+use vx_value::Value;
 
 // What begins with the token, where an operand is due.
 pub(crate) fn begin(context: Context, frames: Vec<Frame>) -> Result<ExpressionStep, ParseError>

@@ -8,6 +8,7 @@ ghost use Rattle.vx_source_operands.specs.Places.{ReadsUpTo};
 ghost use Rattle.vx_source_operands.specs.OperandViews.{callee_of, frames_of, operand_of, operands_of, part_of, step_of};
 
 use crate::steps::{keyword, node_stands, pending};
+use vx_dtype::FieldName;
 use vx_fn::{CaseWhenOptions, ScalarFnRef};
 use vx_source_grammar::Keyword;
 use vx_source_operands::{
@@ -15,7 +16,6 @@ use vx_source_operands::{
     more, tight, type_due,
 };
 use vx_source_types::{Expected, Found, ParseError, Sign, Token, expected, refusal};
-use vx_types::FieldName;
 
 /// The call of the children, which begins at that byte, where so much nesting is allowed.
 pub fn called(

@@ -14,6 +14,7 @@ ghost use Rattle.vx_source_operands.specs.OperandViews.{callee_of, frames_of, op
 use crate::after::after_tight;
 use crate::begin::begin;
 use crate::brackets::called;
+use vx_dtype::{FieldName, FieldNames, Nullability};
 use vx_fn::{EmptyOptions, PackOptions, ScalarFnRef};
 use vx_source_operands::{
     Bracket, Callee, Context, ExpressionStep, Frame, Mode, Operand, more, node, tight,
@@ -21,7 +22,6 @@ use vx_source_operands::{
 use vx_source_types::{
     Expected, ParseError, Sign, Token, expected, field_name, inside, is_word, refusal,
 };
-use vx_types::{FieldName, FieldNames, Nullability};
 
 // The bracket behind a word: the word is a function's name.
 pub(crate) fn call(

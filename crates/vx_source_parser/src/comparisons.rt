@@ -13,10 +13,10 @@ ghost use Rattle.vx_source_operands.specs.OperandViews.{frame_of, frames_of, ope
 
 use crate::steps::pending;
 use std::alloc::AllocError;
+use vx_floats::Arithmetic;
 use vx_fn::{LikeOptions, Operator, StrictComparison};
 use vx_source_operands::{Context, ExpressionStep, Frame, Level, OpenRange, Operand, reduce};
 use vx_source_types::{Expected, ParseError, expected};
-use vx_types::Arithmetic;
 
 // The bound of that operator, of `<` and `<=`.
 fn bound(operator: Operator) -> Option<StrictComparison>

@@ -10,12 +10,12 @@ ghost use Rattle.vx_source_operands.specs.Places.{ReadsUpTo};
 ghost use Rattle.vx_source_operands.specs.OperandViews.{frames_of, operand_of, step_of};
 
 use std::alloc::Global;
+use vx_dtype::{FieldName, FieldNames};
 use vx_fn::{FieldSelection, ScalarFnRef};
 use vx_source_operands::{
     Context, ExpressionStep, Frame, Mode, Operand, SelectionSoFar, more, node_over, tight,
 };
 use vx_source_types::{Expected, ParseError, Sign, Token, field_name, refusal};
-use vx_types::{FieldName, FieldNames};
 
 /// The field of the operand, whose name ends at that byte.
 pub fn field(

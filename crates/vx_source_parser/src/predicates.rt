@@ -14,7 +14,7 @@ use vx_source_operands::{
     Context, ExpressionStep, Frame, Mode, Operand, more, node_between, node_over,
 };
 use vx_source_types::ParseError;
-use vx_types::Scalar;
+use vx_value::Scalar;
 
 /// The test of the operand that the function is.
 pub(crate) fn null_test(

@@ -15,6 +15,7 @@ ghost use Rattle.vx_source_operands.specs.PlainViews.{plain_by};
 ghost use Rattle.vx_source_operands.specs.OperandViews.{frames_of, operand_of, step_of, type_for};
 
 use crate::after::after_tight;
+use vx_dtype::DType;
 use vx_fn::ScalarFnRef;
 use vx_source_operands::{
     Bracket, Context, ExpressionStep, Frame, Mode, Operand, PlainValues, TypeFor, begun_at, more,
@@ -24,7 +25,7 @@ use vx_source_types::{
     Draft, Expected, ParseError, Sign, Token, TypeReader, TypeStep, ValueReader, ValueStep,
     refusal, typed_literal,
 };
-use vx_types::{DType, Scalar};
+use vx_value::Scalar;
 
 // A value goes on, or has ended before the token.
 pub(crate) fn value(

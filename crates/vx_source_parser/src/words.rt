@@ -18,6 +18,7 @@ use crate::calls::{call, open_children};
 use crate::postfix::{dot, field};
 use crate::steps::keyword;
 use std::alloc::Global;
+use vx_dtype::FieldName;
 use vx_fn::ScalarFnRef;
 use vx_source_grammar::Keyword;
 use vx_source_operands::{
@@ -25,7 +26,6 @@ use vx_source_operands::{
     plain_function, takes_options,
 };
 use vx_source_types::{Expected, Found, ParseError, Sign, Token, expected, inside, refusal};
-use vx_types::FieldName;
 
 // What follows a word: a bracket makes it the name of a function, and a dot behind `vortex` may begin such a name; else it
 // is a field.

@@ -17,7 +17,8 @@ use crate::state::{expected, inside, refusal};
 use crate::token::{Sign, Token};
 use crate::value_state::{Draft, ItemsSoFar, ValueFrame, ValueMode, ValueReader, ValueStep};
 use std::alloc::{AllocError, Global};
-use vx_types::{FieldName, Value};
+use vx_dtype::FieldName;
+use vx_value::Value;
 
 // What lies around what is due: what is open, the names of structs so far, and how many more brackets are allowed inside.
 #[derive(Drop)]

@@ -11,7 +11,8 @@ use crate::literals::write_number;
 use crate::types::number_word;
 use std::fmt;
 use std::fmt::{Formatter, Write};
-use vx_types::{Arithmetic, PType};
+use vx_dtype::PType;
+use vx_floats::Arithmetic;
 
 /// How the engine is made to refuse a result that isn't of the type.
 #[derive(Clone, Copy)]

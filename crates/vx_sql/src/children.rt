@@ -6,9 +6,10 @@ ghost use Rattle.vx_tree.specs.Nodes.{bound_at};
 ghost use Rattle.vx_tree.specs.Views.{bound_of, bounds_of};
 ghost use Rattle.vx_sql.specs.Children.{is_row, has_text_first, is_string, has_string_first, is_struct, has_struct_first, has_atomic_first, literal_in, admits_null_at};
 
+use vx_dtype::DType;
 use vx_fn::ScalarFnRef;
 use vx_tree::BoundExpression;
-use vx_types::{DType, Scalar};
+use vx_value::Scalar;
 
 /// The child at that index, if there is one.
 pub(crate) fn child_at(children: &[BoundExpression], index: usize) -> Option<&BoundExpression>

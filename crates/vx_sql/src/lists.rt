@@ -10,8 +10,9 @@ use crate::children::{child_at, literal_in};
 use crate::reasons::literal_reason;
 use crate::unsupported::Reason;
 use crate::zeros::{is_float, no_zero, no_zero_at};
+use vx_dtype::DType;
 use vx_tree::BoundExpression;
-use vx_types::{DType, Scalar, Value};
+use vx_value::{Scalar, Value};
 
 /// The literal that the first child is.
 pub(crate) fn literal_first(children: &[BoundExpression]) -> Option<&Scalar>

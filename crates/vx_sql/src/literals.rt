@@ -15,9 +15,10 @@ use crate::quotes::write_text;
 use crate::types::{float_word, number_word, write_decimal_type, write_instant_type, write_type};
 use std::fmt;
 use std::fmt::{Display, Formatter, Write};
-use vx_dtype::{DecimalType, FloatType, TimestampType, separator};
+use vx_dtype::{DType, DecimalType, FloatType, PType, TimestampType, separator};
+use vx_floats::Float;
 use vx_literals::{write_day, write_decimal, write_instant};
-use vx_types::{DType, Float, PType, Scalar, Value};
+use vx_value::{Scalar, Value};
 
 /// Writes the value, none of a list or a struct.
 pub(crate) fn write_literal<W: Write>(

@@ -6,8 +6,7 @@ ghost use Rattle.vx_sql.specs.Quotes.{name_quote, name_sql};
 use crate::Dialect;
 use std::fmt;
 use std::fmt::{Display, Formatter, Write};
-use vx_dtype::write_quoted;
-use vx_types::FieldName;
+use vx_dtype::{FieldName, write_quoted};
 
 /// A name between the engine's quotes, a quote in it doubled. The engine takes it for that very name
 /// where [`spelling_reason`](crate::spelling_reason) says nothing against it.

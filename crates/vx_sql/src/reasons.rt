@@ -18,11 +18,12 @@ use crate::types::{has_floats, has_type, makes_structs};
 use crate::unsupported::Reason;
 use crate::words::is_misread;
 use crate::zeros::{mixes_zeros, mixes_zeros_between};
-use vx_floats::has_value_text;
+use vx_dtype::{DType, FieldName};
+use vx_floats::{Arithmetic, has_value_text};
 use vx_fn::{Operator, ScalarFnRef};
 use vx_literals::{has_day_text, has_instant_text};
 use vx_tree::BoundExpression;
-use vx_types::{Arithmetic, DType, FieldName, Value};
+use vx_value::Value;
 
 /// Why a node of that type over these children has no text: for their number, for its type, or for its
 /// function.

@@ -24,9 +24,9 @@ use std::fmt::{Display, Formatter, Write};
 use structs::{write_item, write_pack};
 use tests::{write_like, write_null_test};
 use texts::{write_beginning, write_length};
+use vx_dtype::DType;
 use vx_fn::ScalarFnRef;
 use vx_tree::BoundExpression;
-use vx_types::DType;
 
 /// The SQL text of a tree in which each node has one.
 #[derive(Clone, Copy)]

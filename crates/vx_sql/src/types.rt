@@ -8,8 +8,7 @@ ghost use Rattle.vx_sql.specs.Dialects.{postgres_word, duckdb_word, spark_word, 
 use crate::Dialect;
 use std::fmt;
 use std::fmt::{Display, Formatter, Write};
-use vx_dtype::{DecimalType, FloatType, TimeUnit, TimestampType};
-use vx_types::{DType, PType};
+use vx_dtype::{DType, DecimalType, FloatType, PType, TimeUnit, TimestampType};
 
 /// Writes the engine's type of such values: none of lists and structs.
 pub(crate) fn write_type<W: Write>(

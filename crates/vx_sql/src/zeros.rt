@@ -5,8 +5,10 @@ ghost use Rattle.vx_tree.specs.Views.{bounds_of};
 ghost use Rattle.vx_sql.specs.Zeros.{is_zero, no_zero, no_zero_at, is_float, has_float_first, mixes_zeros, mixes_zeros_between};
 
 use crate::children::{child_at, literal_in};
+use vx_dtype::DType;
+use vx_floats::Float;
 use vx_tree::BoundExpression;
-use vx_types::{DType, Float, Value};
+use vx_value::Value;
 
 /// Whether a comparison of two children may be of -0 with 0: they are floating-point numbers, and none is a literal
 /// that is neither.

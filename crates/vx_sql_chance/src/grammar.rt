@@ -5,7 +5,7 @@
 // its measures, by `#e`. `#N`, `#S`, `#B`, `#E`, `#T` and `#X` stand for literals, null among them, and `!N`, `!S`, `!B`,
 // `!E` and `!T` for others than null. `*N`, `*S`, `*B`, `*E` and `*T` stand for literal lists of them, with nulls at times.
 use crate::kinds::{Kind, Measure};
-use vx_types::PType;
+use vx_dtype::PType;
 
 /// Nodes that give truth values.
 const TRUTHS: [&str; 50] = [

@@ -1,6 +1,6 @@
 // What expressions by chance give.
+use vx_dtype::PType;
 use vx_sql::Dialect;
-use vx_types::PType;
 
 /// What an expression gives.
 #[derive(Clone, Copy)]

@@ -3,10 +3,11 @@ use crate::grammar::MASKS;
 use crate::kinds::{Kind, MEASURES, Measure, NUMBERS, has_measures, has_pairs};
 use crate::values::maybe_null;
 use std::alloc::{AllocError, Global};
+use vx_dtype::PType;
 use vx_source::{ScalarText, parse_type};
 use vx_sql::Dialect;
 use vx_test_support::{Seeds, Unread, parted};
-use vx_types::{PType, Scalar, Value};
+use vx_value::{Scalar, Value};
 
 // What ends a word of a row.
 const MARKS: [char; 6] = [' ', '(', ')', ',', '.', '?'];

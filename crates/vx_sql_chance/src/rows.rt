@@ -2,10 +2,11 @@
 use crate::kinds::{Kind, MEASURES, NUMBERS, has_pairs};
 use crate::values::maybe_null;
 use std::alloc::{AllocError, Global};
+use vx_dtype::{DType, PType};
 use vx_source::parse_type;
 use vx_sql::Dialect;
 use vx_test_support::{Seeds, Unread};
-use vx_types::{DType, PType, Value};
+use vx_value::Value;
 
 /// How many rows the table has.
 const ROWS: usize = 50;

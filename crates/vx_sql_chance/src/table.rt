@@ -2,8 +2,10 @@
 use crate::kinds::{Kind, Measure, has_measures, has_pairs};
 use std::alloc::{AllocError, Global};
 use std::fmt::Display;
+use vx_dtype::FieldName;
+use vx_floats::Float;
 use vx_sql::Dialect;
-use vx_types::{FieldName, Float, Value};
+use vx_value::Value;
 
 /// The statements that make the table and fill it: each kind has two columns, the second without null.
 pub fn push_table(

@@ -1,8 +1,10 @@
 // Values by chance.
 use crate::kinds::{Kind, Measure};
 use std::alloc::{AllocError, Global};
+use vx_dtype::PType;
+use vx_floats::Float;
 use vx_test_support::Seeds;
-use vx_types::{Float, PType, Value};
+use vx_value::Value;
 
 /// Characters of texts and patterns: quotes, signs of patterns, letters in both cases, and others.
 const CHARACTERS: [char; 28] = [

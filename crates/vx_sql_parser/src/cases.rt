@@ -11,7 +11,7 @@ use crate::quotes::QuotedName;
 use crate::reason::Unread;
 use crate::step::{Bracket, Change, Step, Stop, says};
 use std::alloc::{AllocError, Global};
-use vx_types::FieldName;
+use vx_dtype::FieldName;
 
 // The beginning of a CASE.
 pub(crate) fn case_begins(alloc: Global, tokens: &[Lexed]) -> Result<Step, Stop>

@@ -8,9 +8,9 @@ use crate::comments::{closing, is_blank, line_len, next};
 use crate::escapes::escaped_text;
 use crate::reason::Unread;
 use std::alloc::{AllocError, Global};
+use vx_dtype::FieldName;
 use vx_source_types::{Expected, Token, first_token};
 use vx_sql::{Dialect, is_escaped};
-use vx_types::FieldName;
 
 // A token, or why it is none, and how many bytes it takes.
 type Taken = (Result<Token, Unread>, usize);

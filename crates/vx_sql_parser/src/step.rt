@@ -6,7 +6,7 @@ ghost use Rattle.vx_sql_parser.specs.declared.step.Stop.TheVariants as stops;
 
 use crate::reason::Unread;
 use std::alloc::{AllocError, AllocFailed, Global};
-use vx_types::FieldName;
+use vx_dtype::FieldName;
 
 /// What is open.
 #[derive(Drop)]

@@ -10,11 +10,11 @@ use crate::error::SqlError;
 use crate::places::{placed, unread};
 use crate::source::{SqlSource, source_of};
 use std::alloc::Global;
+use vx_dtype::DType;
 use vx_source_over::{OverError, parse_over};
 use vx_source_parser::parse;
 use vx_sql::Dialect;
 use vx_tree::Expression;
-use vx_types::DType;
 
 /// The source text that the condition of a WHERE is read as, in the engine's own words, token by token; and of each piece the
 /// token that it is written of.

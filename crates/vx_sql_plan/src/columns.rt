@@ -7,8 +7,9 @@ ghost use Rattle.vx_sql_plan.specs.Statements.{leads_into, column_refusal, IsRef
 
 use crate::NoStatement;
 use std::alloc::{AllocError, Global};
+use vx_dtype::FieldName;
 use vx_sql::{Dialect, SqlName, name_reason};
-use vx_types::{Field, FieldName, FieldPathSet};
+use vx_value::{Field, FieldPathSet};
 
 /// The texts of those names, of all of a row, into whose columns a path leads. Refuses with the first
 /// that can't be written.

@@ -5,12 +5,12 @@ ghost use Rattle.vx_tree.specs.Views.{bound_of};
 use crate::found::{Batches, Found};
 use std::alloc::Global;
 use std::fmt;
+use vx_dtype::DType;
 use vx_sql::{Dialect, to_sql};
 use vx_sql_chance::{Maker, push_shown, table_kinds, table_rows, table_scope};
 use vx_sql_parser::{SqlError, parse_sql_over};
 use vx_test_support::{Seeds, Unread, bound};
 use vx_tree::{BoundExpression, Expression};
-use vx_types::DType;
 
 /// What was found of the texts.
 #[derive(Drop)]

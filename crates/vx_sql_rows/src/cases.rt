@@ -5,6 +5,8 @@ ghost use Rattle.vx_tree.specs.Views.{bound_of};
 use crate::found::{Batches, Found};
 use crate::untold::is_untold;
 use std::alloc::{AllocError, Global};
+use vx_dtype::DType;
+use vx_floats::Float;
 use vx_sql::{Dialect, to_sql};
 use vx_sql_chance::{
     Kind, Maker, push_digits, push_shown, push_table, shown, table_kinds, table_rows, table_scope,
@@ -12,7 +14,7 @@ use vx_sql_chance::{
 use vx_sql_plan::{NoStatement, SqlPlan, sql_plan};
 use vx_test_support::{Seeds, Unread, bound};
 use vx_tree::BoundExpression;
-use vx_types::{DType, Float, Value};
+use vx_value::Value;
 
 /// The script for an engine, and what it should print.
 #[derive(Drop)]

@@ -4,11 +4,12 @@ ghost use Rattle.vx_tree.specs.Views.{bound_of};
 
 use crate::shown::is_shown;
 use std::alloc::Global;
+use vx_dtype::{DType, VortexError};
 use vx_eval::apply_bound;
 use vx_places::first_fault_at;
 use vx_test_support::Unread;
 use vx_tree::BoundExpression;
-use vx_types::{Column, DType, Value, VortexError};
+use vx_value::{Column, Value};
 
 /// Rows, all of them and each by itself.
 #[derive(Drop)]

@@ -4,6 +4,7 @@ ghost use Rattle.vx_tree.specs.Trees.{WellTyped};
 ghost use Rattle.vx_tree.specs.Views.{bound_of};
 
 use std::alloc::{AllocError, Global};
+use vx_dtype::DType;
 use vx_eval::apply_bound;
 use vx_source::TypeText;
 use vx_sql::Dialect;
@@ -11,7 +12,7 @@ use vx_sql_chance::{Maker, push_shown, push_table, table_kinds, table_rows, tabl
 use vx_sql_plan::{NoStatement, SqlPlan, sql_plan};
 use vx_test_support::{Seeds, Unread, bound};
 use vx_tree::BoundExpression;
-use vx_types::{Column, DType, Value};
+use vx_value::{Column, Value};
 
 /// The table that has the rows, the plans' statements over a table `spread`, and what is wanted.
 #[derive(Drop)]

@@ -1,7 +1,7 @@
 // Which faults an engine has to show.
 use vx_fn::{Operator, ScalarFnRef};
 use vx_tree::BoundExpression;
-use vx_types::Value;
+use vx_value::Value;
 
 /// Whether an engine comes to the node at the path in every row: on the way there is no choice, no `and` and
 /// `or` of which one operand may decide, and beside it nothing that an engine knows to be null beforehand.

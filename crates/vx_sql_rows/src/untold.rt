@@ -1,9 +1,9 @@
 // Which expressions have no text in an engine.
+use vx_dtype::DType;
 use vx_fn::{Operator, ScalarFnRef};
 use vx_sql::{Dialect, Reason, Unsupported};
 use vx_sql_chance::has_measures;
 use vx_tree::BoundExpression;
-use vx_types::DType;
 
 /// Whether there is no text since the engine lacks measures, their arithmetic or the order of floats, since a day is far, or
 /// since a float takes more digits than are written. DuckDB and Spark have no text of some quotients and remainders.

@@ -2,9 +2,9 @@
 use crate::pieces::{number, parted, within};
 use crate::unread::Unread;
 use std::alloc::Global;
+use vx_dtype::FloatType;
 use vx_floats::{Float, read_float};
 use vx_tree::Value;
-use vx_types::FloatType;
 
 const MARKS: [char; 6] = ['[', ']', '{', '}', ',', '*'];
 

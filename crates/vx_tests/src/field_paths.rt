@@ -1,7 +1,7 @@
 // What a path is made of.
 use std::alloc::Global;
 use vx_tree::{FieldName, VortexResult};
-use vx_types::FieldPath;
+use vx_value::FieldPath;
 
 /// The path to the field of that name.
 fn outer(alloc: Global, name: &str) -> VortexResult<FieldPath> {

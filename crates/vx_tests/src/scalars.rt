@@ -1,9 +1,9 @@
 // Scalars by their constructors: texts, types and values.
 use crate::looks::{answers, differs, gives, same, shows};
+use vx_floats::Float;
 use vx_test_support::reads;
 use vx_tree::Nullability::Nullable;
 use vx_tree::{DType, Scalar, Value};
-use vx_types::Float;
 
 #[test]
 fn scalars_show_their_value(rt: HostRuntime) {

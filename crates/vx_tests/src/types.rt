@@ -1,10 +1,10 @@
 // Names, types and their fields.
 use crate::looks::{differs, gives, refuses, same, shows};
+use vx_dtype::FloatType;
 use vx_test_support::{dtype, i32_type, names, reads};
 use vx_tree::Nullability::{NonNullable, Nullable};
 use vx_tree::test_harness::struct_dtype;
 use vx_tree::{DType, FieldName, FieldNames, Nullability};
-use vx_types::FloatType;
 
 #[test]
 fn names_are_found_at_their_first_place(rt: HostRuntime) {

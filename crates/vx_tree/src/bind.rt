@@ -11,8 +11,8 @@ ghost use Rattle.vx_tree.specs.Views.{tree_of, trees_from, bound_of, bounds_of};
 
 use crate::{BoundExpression, Expression, Scope, TreeNode};
 use std::alloc::Global;
+use vx_dtype::{DType, VortexError, VortexResult};
 use vx_fn::ScalarFnRef;
-use vx_types::{DType, VortexError, VortexResult};
 
 impl Expression {
     /// The tree with the type of each node, over a scope of that type. Its cost is linear in the

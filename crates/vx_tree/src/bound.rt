@@ -12,8 +12,8 @@ ghost use Rattle.vx_tree.specs.Views.{bound_of, bounds_of};
 
 use std::alloc::{AllocError, Global};
 use std::sync::Arc;
+use vx_dtype::{DType, VortexError, VortexResult};
 use vx_fn::{ScalarFnRef, Typed};
-use vx_types::{DType, VortexError, VortexResult};
 
 /// A tree of functions over the row of a scope whose type is known, with the type of each node;
 /// clones share their children.

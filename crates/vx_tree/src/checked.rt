@@ -12,8 +12,8 @@ ghost use Rattle.vx_tree.specs.Views.{bound_of, bounds_of};
 use crate::BoundExpression;
 use crate::bound::dtype_over;
 use std::alloc::Global;
+use vx_dtype::{DType, VortexError, VortexResult};
 use vx_fn::ScalarFnRef;
-use vx_types::{DType, VortexError, VortexResult};
 
 impl BoundExpression {
     /// Whether each node has the type that its function gives over its children's types. What

@@ -9,7 +9,7 @@ ghost use Rattle.vx_tree.specs.Views.{tree_of, bound_of};
 
 use crate::{BoundExpression, Expression, TreeNode};
 use std::alloc::{AllocError, Global};
-use vx_types::VortexResult;
+use vx_dtype::VortexResult;
 
 impl Expression {
     /// How many nodes the longest way from the first node down has, 1 where that has no children.

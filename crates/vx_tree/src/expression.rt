@@ -8,8 +8,8 @@ ghost use Rattle.vx_tree.specs.Views.{tree_of, trees_of};
 
 use std::alloc::{AllocError, Global};
 use std::sync::Arc;
+use vx_dtype::{VortexError, VortexResult};
 use vx_fn::ScalarFnRef;
-use vx_types::{VortexError, VortexResult};
 
 /// A tree of functions over the row of a scope that isn't known yet; clones share their children.
 #[derive(Debug)]

@@ -39,6 +39,9 @@ pub use node::TreeNode;
 pub use notation::{Notation, write_tree};
 pub use scope::Scope;
 pub use typing::push_type_over;
+pub use vx_dtype::{
+    DType, FieldName, FieldNames, Nullability, PType, StructFields, VortexError, VortexResult,
+};
 pub use vx_fn::{
     Between, BetweenOptions, Binary, ByteLength, CaseWhen, CaseWhenOptions, Cast, ChildName,
     EmptyOptions, FieldSelection, FillNull, GetItem, IsNotNull, IsNull, Like, LikeOptions,
@@ -46,8 +49,5 @@ pub use vx_fn::{
     Select, StartsWith, StrictComparison, Zip, matches_is_decided, swapped_over_exchanged_operands,
     typing_is_monotone, typing_is_the_relation, write_names,
 };
-pub use vx_types::{
-    Column, DType, Field, FieldName, FieldNames, FieldPath, FieldPathSet, Nullability, PType,
-    Scalar, StructFields, Value, VortexError, VortexResult,
-};
+pub use vx_value::{Column, Field, FieldPath, FieldPathSet, Scalar, Value};
 pub use worked::worked_rows;

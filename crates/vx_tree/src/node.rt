@@ -14,8 +14,8 @@ ghost use Rattle.vx_tree.specs.Views.{tree_of, trees_from, trees_of, bound_of, b
 
 use crate::{BoundExpression, Expression};
 use std::alloc::Global;
+use vx_dtype::VortexResult;
 use vx_fn::ScalarFnRef;
-use vx_types::VortexResult;
 
 /// A tree of either kind: what is at its first node, and how a node is made over others. Code that
 /// is generic over it serves sources and bound trees alike.

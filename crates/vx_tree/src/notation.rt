@@ -17,8 +17,9 @@ use infix::{write_between, write_binary, write_like};
 use pack::write_pack;
 use std::fmt;
 use std::fmt::{Formatter, Write};
+use vx_dtype::{DType, FieldName};
 use vx_fn::{FieldSelection, ScalarFnRef};
-use vx_types::{DType, FieldName, Scalar};
+use vx_value::Scalar;
 
 /// What differs between notations of trees, which [`write_tree`] writes: names, literals, types, and
 /// nodes that are written by the names of their functions. None of these calls takes memory.

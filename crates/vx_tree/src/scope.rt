@@ -3,7 +3,7 @@ ghost use Rattle.std.specs.Prelude.{◌≡◌};
 ghost use Rattle.vx_value.specs.Views.{type_of};
 
 use std::marker::Model;
-use vx_types::DType;
+use vx_dtype::DType;
 
 /// The type of the rows that an expression reads.
 #[derive(Debug, Drop)]

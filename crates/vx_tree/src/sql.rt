@@ -11,8 +11,9 @@ use crate::TreeNode;
 use crate::notation::{Notation, write_tree};
 use std::fmt;
 use std::fmt::{Display, Formatter, Write};
+use vx_dtype::{DType, FieldName};
 use vx_fn::{ScalarFnRef, write_names};
-use vx_types::{DType, FieldName, Scalar};
+use vx_value::Scalar;
 
 // Writes the SQL text of the tree.
 pub(crate) fn fmt_sql<T: TreeNode, W: Write>(node: &T, f: &mut Formatter<W>) -> fmt::Result

@@ -5,7 +5,7 @@ ghost use Rattle.vx_value.specs.Views.{type_of};
 ghost use Rattle.vx_tree.specs.Harness.{harness_type};
 
 use std::alloc::Global;
-use vx_types::{DType, FieldName, FieldNames, Nullability, PType, StructFields, VortexResult};
+use vx_dtype::{DType, FieldName, FieldNames, Nullability, PType, StructFields, VortexResult};
 
 /// The struct type `{a=i32, col1=u16?, col2=u16?, bool1=bool, bool2=bool}`.
 pub fn struct_dtype(alloc: Global) -> VortexResult<DType>

@@ -9,7 +9,7 @@ ghost use Rattle.vx_tree.specs.Views.{tree_of, trees_of};
 
 use crate::Expression;
 use std::alloc::Global;
-use vx_types::{DType, VortexResult};
+use vx_dtype::{DType, VortexResult};
 
 impl Expression {
     /// The type of the tree over a scope of that type, with no bound tree built. Its cost is linear

@@ -9,8 +9,9 @@ ghost use Rattle.vx_tree.specs.Views.{bound_of, bounds_of};
 
 use crate::BoundExpression;
 use std::alloc::Global;
+use vx_dtype::{DType, Nullability, VortexResult};
 use vx_fn::{EmptyOptions, ScalarFnRef};
-use vx_types::{DType, Nullability, Scalar, Value, VortexResult};
+use vx_value::{Scalar, Value};
 
 impl BoundExpression {
     /// The tree of type `bool`, never null, that is true exactly in the rows in which this one isn't

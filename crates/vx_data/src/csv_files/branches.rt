@@ -4,7 +4,7 @@ use crate::expected::Expected;
 use crate::fault::Fault;
 use std::alloc::Global;
 use std::collections::HashMap;
-use vx_types::FieldName;
+use vx_dtype::FieldName;
 
 /// A field of the type that is guessed: a cell, by its place in a record, or a struct.
 #[cycle(branch)]

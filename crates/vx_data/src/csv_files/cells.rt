@@ -7,7 +7,9 @@ use crate::numbers::{float_value, number_counted, number_said, number_value};
 use csv::ByteRecord;
 use std::alloc::Global;
 use std::str;
-use vx_types::{DType, Float, FloatType, PType, Value};
+use vx_dtype::{DType, FloatType, PType};
+use vx_floats::Float;
+use vx_value::Value;
 
 /// The cells that a record has of a type.
 #[derive(Clone, Copy)]

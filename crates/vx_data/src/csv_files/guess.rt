@@ -8,7 +8,7 @@ ghost use Rattle.vx_data.specs.Kinds.{cell_kind, kind_type, together};
 use crate::kind::Kind;
 use crate::kinds::Kinds;
 use std::alloc::AllocError;
-use vx_types::{DType, Nullability};
+use vx_dtype::{DType, Nullability};
 
 /// What the texts of a cell have in common.
 #[derive(Clone, Copy, Debug, PartialEq, Eq)]

@@ -4,7 +4,7 @@ use crate::fault::Fault;
 use csv::ByteRecord;
 use std::alloc::Global;
 use std::str;
-use vx_types::FieldName;
+use vx_dtype::FieldName;
 
 /// The names of the cells of a file that begins with that record: as they stand in it where it is the header, else
 /// `column1`, `column2`, and so on.

@@ -16,7 +16,7 @@ use csv::ByteRecord;
 use std::alloc::{AllocError, Global};
 use std::io::Read;
 use std::str;
-use vx_types::{DType, FieldName, FieldNames, Nullability, StructFields, VortexResult};
+use vx_dtype::{DType, FieldName, FieldNames, Nullability, StructFields, VortexResult};
 
 /// The narrowest type of the first 1,000 records behind the header, fewer where there are no more: a struct of its names in
 /// their order, in which a name with dots leads to a field of a field, if in all such names the dots stand between words of

@@ -9,7 +9,8 @@ use crate::fault::Fault;
 use crate::other_fields::OtherFields;
 use csv::ByteRecord;
 use std::alloc::{AllocError, Global};
-use vx_types::{DType, FieldName, FieldNames, FieldPathSet, Value};
+use vx_dtype::{DType, FieldName, FieldNames};
+use vx_value::{FieldPathSet, Value};
 
 /// Reads the records behind a header as values of a type.
 #[derive(Debug, Drop)]

@@ -3,7 +3,8 @@ use crate::csv_files::header::{fault_at, named};
 use crate::expected::Expected;
 use crate::fault::Fault;
 use std::alloc::{AllocError, Global};
-use vx_types::{DType, Field, FieldName, FieldNames, StructFields};
+use vx_dtype::{DType, FieldName, FieldNames, StructFields};
+use vx_value::Field;
 
 /// How the cells of a type make a value of it. The cells are numbered in the order of the fields.
 #[cycle(plan)]

@@ -9,7 +9,8 @@ use crate::csv_files::records::CsvRecords;
 use crate::error::DataError;
 use std::alloc::Global;
 use std::io::Read;
-use vx_types::{Column, DType};
+use vx_dtype::DType;
+use vx_value::Column;
 
 /// The rows of that type that the reader's records are, behind a header with the names of their cells (`CsvParser`).
 /// Refuses with the line of the first record that is none, the path of the field, and what is expected there; a file

@@ -8,7 +8,8 @@ use crate::numbers::{float_text, number_text};
 use csv::{ByteRecord, Error, ErrorKind, Writer};
 use std::alloc::{AllocError, Global};
 use std::io::Write;
-use vx_types::{Column, DType, FieldNames, Value};
+use vx_dtype::{DType, FieldNames};
+use vx_value::{Column, Value};
 
 /// A CSV file that is written column by column, behind a header with the names of the cells.
 #[derive(Drop)]

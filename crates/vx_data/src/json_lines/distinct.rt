@@ -2,7 +2,7 @@
 use crate::expected::Expected;
 use crate::fault::Fault;
 use std::alloc::Global;
-use vx_types::{DType, StructFields};
+use vx_dtype::{DType, StructFields};
 
 /// Refuses a type with a struct, at any depth, of which two fields have one name, with the path of the first field whose
 /// name stands before it. Time is linear in the type.

@@ -2,7 +2,8 @@
 use crate::expected::Expected;
 use crate::fault::Fault;
 use std::alloc::{AllocError, Global};
-use vx_types::{FieldName, FieldNames, StructFields, Value};
+use vx_dtype::{FieldName, FieldNames, StructFields};
+use vx_value::Value;
 
 /// The fields of a struct that were read so far; those that weren't are null.
 #[derive(Drop)]

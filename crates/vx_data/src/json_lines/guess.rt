@@ -9,7 +9,7 @@ use crate::kinds::Kinds;
 use std::alloc::{AllocError, Global};
 use std::collections::HashMap;
 use std::sync::Arc;
-use vx_types::{DType, FieldName, FieldNames, Nullability, StructFields, VortexResult};
+use vx_dtype::{DType, FieldName, FieldNames, Nullability, StructFields, VortexResult};
 
 /// What some values have in common.
 #[cycle(guess)]

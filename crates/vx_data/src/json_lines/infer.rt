@@ -10,7 +10,7 @@ use crate::kinds::Kinds;
 use json::Scratch;
 use std::alloc::Global;
 use std::io::BufRead;
-use vx_types::DType;
+use vx_dtype::DType;
 
 /// The narrowest type of the first 1,000 records, fewer where there are no more: `bool`, `i64`, `u64` where a number is
 /// above the range of `i64`, `f64` where a number has a point or an exponent, `date` and `timestamp` of texts as in CSV,

@@ -12,7 +12,8 @@ use crate::numbers::{float_value, number_counted, number_said, number_value};
 use crate::other_fields::OtherFields;
 use json::{Reader, Scratch, Token};
 use std::alloc::Global;
-use vx_types::{DType, StructFields, Value};
+use vx_dtype::{DType, StructFields};
+use vx_value::Value;
 
 /// Reads records as values. It keeps the memory that texts with escapes need.
 #[derive(Drop)]

@@ -9,7 +9,8 @@ use crate::json_lines::format::JsonFormat;
 use crate::json_lines::parser::JsonParser;
 use std::alloc::Global;
 use std::io::BufRead;
-use vx_types::{Column, DType};
+use vx_dtype::DType;
+use vx_value::Column;
 
 /// The rows of that type that the reader's lines are, one a line, blank lines left out. Refuses with the first line
 /// that is none, the path of the field, and what is expected there; with the reader's error; and with `OutOfMemory`.

@@ -17,7 +17,9 @@ use crate::numbers::{float_text, is_dated, number_text};
 use json::Writer;
 use std::alloc::Global;
 use std::io::Write;
-use vx_types::{Column, DType, Float, StructFields, Value};
+use vx_dtype::{DType, StructFields};
+use vx_floats::Float;
+use vx_value::{Column, Value};
 
 // Lines are handed to the writer so many bytes at a time.
 const BLOCK: usize = 65_536;

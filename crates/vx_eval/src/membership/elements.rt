@@ -9,7 +9,7 @@ ghost use Rattle.vx_eval.specs.Elements.{HasElements};
 use std::alloc::{AllocError, Global};
 use std::collections::HashSet;
 use std::marker::Model;
-use vx_types::Value;
+use vx_value::Value;
 
 // A list's elements, their set, and whether one of them is null.
 #[derive(Drop)]

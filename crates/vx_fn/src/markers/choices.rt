@@ -7,7 +7,7 @@ ghost use Rattle.vx_fn.specs.declared.function.ScalarFnRef.TheVariants as of;
 
 use crate::typing::is_atomic;
 use crate::{CaseWhenOptions, EmptyOptions, ScalarFnRef, ScalarFnVTable};
-use vx_types::DType;
+use vx_dtype::DType;
 
 /// The value beside the first condition that is true, else the ELSE value, else null.
 #[derive(Clone, Copy)]

@@ -3,7 +3,7 @@ ghost use Rattle.vx_fn.specs.Markers as options;
 ghost use Rattle.vx_fn.specs.declared.function.ScalarFnRef.TheVariants as of;
 
 use crate::{FieldSelection, PackOptions, ScalarFnRef, ScalarFnVTable};
-use vx_types::FieldName;
+use vx_dtype::FieldName;
 
 /// The first field of a name.
 #[derive(Clone, Copy)]

@@ -3,7 +3,8 @@ ghost use Rattle.vx_fn.specs.Markers as options;
 ghost use Rattle.vx_fn.specs.declared.function.ScalarFnRef.TheVariants as of;
 
 use crate::{EmptyOptions, ScalarFnRef, ScalarFnVTable};
-use vx_types::{DType, Scalar};
+use vx_dtype::DType;
+use vx_value::Scalar;
 
 /// A scalar, whatever the row.
 #[derive(Clone, Copy)]

@@ -10,7 +10,7 @@ ghost use Rattle.vx_fn.specs.Memory.{RefusesEarly};
 use super::rows::is_truth;
 use crate::{CaseWhenOptions, Typed};
 use std::alloc::Global;
-use vx_types::{DType, Nullability, VortexError, VortexResult};
+use vx_dtype::{DType, Nullability, VortexError, VortexResult};
 
 pub(super) fn case_dtype<T: Typed>(
     alloc: Global,

@@ -7,7 +7,7 @@ ghost use Rattle.vx_fn.specs.Memory.{RefusesEarly};
 
 use crate::{FieldSelection, PackOptions, Typed};
 use std::alloc::{AllocError, Global};
-use vx_types::{DType, FieldName, Nullability, StructFields, VortexError, VortexResult};
+use vx_dtype::{DType, FieldName, Nullability, StructFields, VortexError, VortexResult};
 
 pub(super) fn item_dtype(name: &FieldName, t: &DType) -> VortexResult<DType>
     ensures typed { ReturnsOrOom type_of result (item_type name.now (type_of t.now)) }

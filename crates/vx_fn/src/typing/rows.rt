@@ -10,7 +10,9 @@ ghost use Rattle.vx_fn.specs.Views.{operation_of};
 
 use crate::Operator;
 use std::alloc::Global;
-use vx_types::{Arithmetic, DType, Nullability, PType, Scalar, VortexError, VortexResult};
+use vx_dtype::{DType, Nullability, PType, VortexError, VortexResult};
+use vx_floats::Arithmetic;
+use vx_value::Scalar;
 
 // Reading the value tells that it is one of the type.
 pub(super) fn literal_dtype(scalar: &Scalar) -> VortexResult<DType>

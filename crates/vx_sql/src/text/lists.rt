@@ -17,7 +17,8 @@ use crate::literals::{truth_word, write_items, write_null};
 use crate::types::collation;
 use std::fmt;
 use std::fmt::{Formatter, Write};
-use vx_types::{DType, Value};
+use vx_dtype::DType;
+use vx_value::Value;
 
 // The second child in the literal list that is the first, null of the node's type if that is; none where it is no literal.
 #[cycle(text)]

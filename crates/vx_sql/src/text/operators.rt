@@ -15,8 +15,9 @@ use crate::children::{admits_null_at, has_string_first, has_text_first};
 use crate::types::collation;
 use std::fmt;
 use std::fmt::{Formatter, Write};
+use vx_dtype::{DType, PType};
+use vx_floats::Arithmetic;
 use vx_fn::{BetweenOptions, Operator, StrictComparison};
-use vx_types::{Arithmetic, DType, PType};
 
 // An operator between its operands; arithmetic as one of that type.
 #[cycle(text)]

@@ -12,7 +12,7 @@ use crate::names::write_name;
 use crate::quotes::write_text;
 use std::fmt;
 use std::fmt::{Formatter, Write};
-use vx_types::FieldName;
+use vx_dtype::FieldName;
 
 // A column of the row, or a field of a struct.
 #[cycle(text)]

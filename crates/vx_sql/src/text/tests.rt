@@ -15,7 +15,7 @@ use std::fmt;
 use std::fmt::{Formatter, Write};
 use vx_fn::LikeOptions;
 use vx_tree::BoundExpression;
-use vx_types::{Scalar, Value};
+use vx_value::{Scalar, Value};
 
 // Whether the child is null, or isn't.
 #[cycle(text)]

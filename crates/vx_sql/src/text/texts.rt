@@ -14,7 +14,7 @@ use crate::patterns::write_beginning_pattern;
 use std::fmt;
 use std::fmt::{Formatter, Write};
 use vx_tree::BoundExpression;
-use vx_types::{Scalar, Value};
+use vx_value::{Scalar, Value};
 
 // A test of a beginning: a match with its characters and any text behind them.
 #[cycle(text)]

@@ -2,7 +2,7 @@
 use std::alloc::Global;
 use vx_test_support::Unread;
 use vx_tree::{FieldName, VortexResult};
-use vx_types::{Field, FieldPath, FieldPathSet};
+use vx_value::{Field, FieldPath, FieldPathSet};
 
 /// The paths that the set gives: `$.a.x $.b`, the root path as `$`.
 pub fn shown_paths(alloc: Global, set: &FieldPathSet) -> VortexResult<String> {

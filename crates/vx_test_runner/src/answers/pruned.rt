@@ -14,7 +14,7 @@ use vx_prune::{ChunkStats, Endpoint, FieldStats, Verdict, bounds, select_rows, v
 use vx_scan::{ScanPlan, plan};
 use vx_test_support::{Unread, value};
 use vx_tree::{BoundExpression, Column, DType, Expression, Value, VortexResult};
-use vx_types::FieldPathSet;
+use vx_value::FieldPathSet;
 
 /// The statistics of the words: `3 rows; a.x: 1 null, least 1, greatest 5; s: least 'ab`.
 pub fn statistics(alloc: Global, words: &str) -> Result<ChunkStats, Unread> {

@@ -13,7 +13,7 @@ use std::fmt;
 use vx_projection::{ColumnReader, PathReader, read_referenced};
 use vx_scan::{ScanPlan, plan, scan};
 use vx_tree::{Column, Expression, VortexResult};
-use vx_types::{FieldPath, FieldPathSet};
+use vx_value::{FieldPath, FieldPathSet};
 
 /// The answer to a line that asks of the source, planned for scans of the scope, or what refuses that.
 pub fn planned(

@@ -9,8 +9,8 @@ use super::{Notation, write_child};
 use crate::TreeNode;
 use std::fmt;
 use std::fmt::{Formatter, Write};
+use vx_dtype::FieldName;
 use vx_fn::PackOptions;
-use vx_types::FieldName;
 
 // A struct of named children, with a question mark where it is nullable.
 #[cycle(written)]
