@@ -1,10 +1,10 @@
 // Plain values as literals and scalars.
 use crate::forms::shown::gives;
 use std::alloc::Global;
-use vx_dtype::{TimeUnit, TimestampType};
 use vx_forms::*;
 use vx_tree::Nullability::NonNullable;
 use vx_tree::{DType, Scalar, VortexResult};
+use vx_types::{TimeUnit, TimestampType};
 
 // The text of the literal, and its type.
 fn literal<S: IntoScalar>(alloc: Global, value: S) -> VortexResult<String> {
