@@ -1,7 +1,7 @@
 -- What two writers hold after a run of the program, and how it ended.
 use Rattle.std.specs.Prelude.{◌≡◌, ◌⊎◌, ℕ, List, Option}
 use Rattle.std.specs.Io.KnownBytes.{Appends, Keeps}
-use Rattle.vx_run.specs.Writing.{Breaks}
+use Rattle.vx_writing.specs.Writing.{Breaks}
 use Rattle.vx_command_pages.specs.declared.error.CommandError.{CommandError}
 use Rattle.vx_command_pages.specs.declared.error.Status.{Status}
 use Rattle.vx_command_pages.specs.declared.error.Status.TheVariants.{Done, Failed}

@@ -8,7 +8,7 @@ use std::alloc::Global;
 use std::fmt::Display;
 use std::io::Write;
 use vx_command_pages::{CommandError, Status};
-use vx_run::tell;
+use vx_writing::tell;
 
 /// Runs the command: its page is written on `out`, or an error as a message on `err`, and
 /// the other writer is left as it was. All of a page is made before the first of it is written. The

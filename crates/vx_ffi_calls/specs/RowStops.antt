@@ -15,7 +15,7 @@ use Rattle.vx_command_pages.specs.Inputs.{ReadsWhere, IsCommandError}
 use Rattle.vx_command_pages.specs.Spans.{span_at}
 use Rattle.vx_commands.specs.declared.error.RowsError.{RowsError}
 use Rattle.vx_commands.specs.declared.error.RowsError.TheVariants.{Query, NotBool, Records as OfRecords}
-use Rattle.vx_commands.specs.Rows.{IsBoundTo}
+pub use Rattle.vx_commands.specs.Rows.{IsBoundTo}
 use Rattle.vx_ffi_calls.specs.declared.answer.Place.{Place}
 use Rattle.vx_ffi_calls.specs.declared.answer.Status.{Status}
 use Rattle.vx_ffi_calls.specs.declared.answer.Status.TheVariants.{OutOfMemory, Refused, Faulted, BadData}

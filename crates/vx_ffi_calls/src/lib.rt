@@ -22,3 +22,4 @@ pub use stop::{CallError, place_of, stop_of};
 pub use text::{Given, GivenQuery, read_text};
 pub use verdicts::answer_verdicts;
 pub use version::answer_version;
+pub use vx_commands::{RowsError, RowsMessage};

@@ -8,11 +8,11 @@ use Rattle.vx_command_pages.specs.declared.report.Span.{Span}
 use Rattle.vx_places.specs.Faults.{IsFirstFault}
 use Rattle.vx_data_buffers.specs.declared.error.BufferError.{BufferError}
 use Rattle.vx_data_buffers.specs.Rows.{column_said}
-use Rattle.vx_commands.specs.Rows.{IsBoundTo}
 use Rattle.vx_ffi_calls.specs.declared.answer.Place.{Place}
 use Rattle.vx_ffi_calls.specs.declared.answer.Status.TheVariants.{Faulted, BadData}
 use Rattle.vx_ffi_calls.specs.declared.stop.CallError.{CallError}
 use Rattle.vx_ffi_calls.specs.declared.text.Given.TheVariants.{Expression, Records}
+use Rattle.vx_ffi_calls.specs.RowStops.{IsBoundTo}
 use Rattle.vx_ffi_calls.specs.Stops.{IsExhausted, IsPlaceIn, text_number}
 use Rattle.vx_ffi_plan.specs.declared.kept.KeptPlan.{KeptPlan}
 use Rattle.vx_ffi_plan.specs.Kept.{scope_of, source_of}

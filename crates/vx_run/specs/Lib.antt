@@ -1,4 +1,3 @@
-pub mod Writing
 pub mod Requests
 pub mod Quiet
 pub mod Samples

@@ -3,7 +3,7 @@ use Rattle.std.specs.Prelude.{◌⊎◌, ℕ, List, Option, Result, MatchResult,
 use Rattle.std.specs.Io.KnownBytes.{Keeps}
 use Rattle.vx_run.specs.declared.row.Row.{Row}
 use Rattle.vx_run.specs.Pages.{page_of}
-use Rattle.vx_run.specs.Writing.{Tells}
+use Rattle.vx_writing.specs.Writing.{Tells}
 
 -- the complaint where memory is refused
 abbrev pub memory_text : List ℕ

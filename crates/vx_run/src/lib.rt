@@ -12,7 +12,6 @@ mod pages;
 mod row;
 mod run;
 mod scan;
-mod writing;
 
 pub use laws::{
     branches_is_normal_form, branches_page_is, cases_page_is, coalesce_page_is,
@@ -22,4 +21,3 @@ pub use row::Row;
 pub use run::run_show;
 pub use vx_query::run_query;
 pub use vx_rewrite::Pass;
-pub use writing::tell;

@@ -5,9 +5,9 @@ ghost use Rattle.vx_run.specs.Runs.{EndsShow, EndsAtRow};
 
 use crate::pages::page;
 use crate::row::{Row, asked};
-use crate::writing::tell;
 use std::alloc::Global;
 use std::io::Write;
+use vx_writing::tell;
 
 /// Runs the program on the words after its name, and answers its status. One word that names a
 /// row gives the row's page on `out` and 0, or where memory is refused (number 1, `OutOfMemory`)

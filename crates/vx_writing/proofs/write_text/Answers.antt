@@ -4,7 +4,7 @@ use Rattle.std.proofs.lemmas.List.{take_rest}
 use Rattle.std.proofs.Math.Seq.{take-add}
 use Rattle.std.specs.Io.KnownBytes.{Appends}
 use Rattle.std.proofs.KnownBytes.{Appends-trans}
-use Rattle.vx_run.proofs.writing.write_text.Goals as goal
+use Rattle.vx_writing.proofs.write_text.Goals as goal
 
 goes_on : (a b c : Option (List ℕ)) (text bytes : List ℕ) (done n : ℕ) → bytes ≡ text → Appends a b (take done text)
     → Appends b c (take n (take (length bytes - done) (drop done bytes))) → Appends a c (take (done + n) text)

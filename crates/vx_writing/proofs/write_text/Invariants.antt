@@ -1,7 +1,7 @@
 -- The bytes before `written` were appended.
 use Rattle.std.proofs.Common.{◌-◌, ◌≤◌, length, take}
 use Rattle.std.specs.Io.KnownBytes.{Appends}
-use Rattle.vx_run.proofs.writing.write_text.Given as goal
+use Rattle.vx_writing.proofs.write_text.Given as goal
 
 abbrev pub invariant-loop-written : goal.invariant-loop-written
 invariant-loop-written g l =

@@ -1,7 +1,9 @@
 // Texts on a writer that may fail.
+#![tactic(auto)]
+
 ghost use Rattle.std.specs.Prelude.{IsTrue, IsFalse};
 ghost use Rattle.std.specs.Io.KnownBytes.{Appends};
-ghost use Rattle.vx_run.specs.Writing.{Breaks, Tells};
+ghost use Rattle.vx_writing.specs.Writing.{Breaks, Tells};
 
 use std::io::Write;
 
