@@ -125,7 +125,7 @@ fn over_texts(rt: &HostRuntime, name: &str, matches: &ArgMatches<'_>) -> Result<
         Ok(expression) => expression,
         Err(status) => return Ok(status),
     };
-    let schema = match schema_of(rt, matches)? {
+    let schema = match schema_of(rt, matches, &expression)? {
         Ok(schema) => schema,
         Err(status) => return Ok(status),
     };
@@ -149,7 +149,7 @@ fn over_texts(rt: &HostRuntime, name: &str, matches: &ArgMatches<'_>) -> Result<
 // Does that work for the engine that the words name.
 fn over_engine(rt: &HostRuntime, work: SqlTask, matches: &ArgMatches<'_>) -> Result<Status> {
     let expression = text_at(rt, matches, "expression")?;
-    let schema = match schema_of(rt, matches)? {
+    let schema = match schema_of(rt, matches, &expression)? {
         Ok(schema) => schema,
         Err(status) => return Ok(status),
     };

@@ -1,2 +1,3 @@
 mod Untold
 mod Kept
+mod Stopped

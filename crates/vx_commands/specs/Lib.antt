@@ -4,3 +4,4 @@ pub mod Commands
 pub mod SqlRuns
 pub mod Selected
 pub mod Spans
+pub mod Guesses

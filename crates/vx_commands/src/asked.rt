@@ -6,8 +6,8 @@ ghost use Rattle.vx_tree.specs.Views.{tree_of};
 ghost use Rattle.vx_rewrite_paths.specs.Asked.{referenced};
 ghost use Rattle.vx_commands.specs.Rows.{IsBoundTo};
 
-use crate::rows::{RecordsTask, RowsCommand};
-use crate::tasks::selected_value;
+use crate::rows::RecordsTask;
+use crate::tasks::ReadCommand;
 use std::alloc::Global;
 use vx_command_pages::bind;
 use vx_dtype::DType;
@@ -19,18 +19,14 @@ use vx_value::FieldPathSet;
 /// None where one of these is refused, or memory runs out, which then stops the command.
 pub(crate) fn asked_paths(
     alloc: Global,
-    command: &RowsCommand<'_>,
-    placed: &Placed,
+    command: &ReadCommand<'_>,
     scope: &DType,
 ) -> Option<FieldPathSet> {
-    let paths = paths_of(alloc, placed, scope)?;
+    let paths = paths_of(alloc, command.query.placed, scope)?;
     if !matches!(command.work, RecordsTask::Select(_)) {
         return Some(paths);
     }
-    let Ok(value) = selected_value(alloc, command.select.text, scope) else {
-        return None;
-    };
-    let others = paths_of(alloc, &value, scope)?;
+    let others = paths_of(alloc, command.value, scope)?;
     joined(alloc, paths, &others)
 }
 

@@ -2,9 +2,12 @@
 ghost use Rattle.std.specs.Prelude.{◌≡◌, length};
 
 use std::alloc::{AllocError, AllocFailed, Global};
-use vx_command_pages::nearest_field;
+use std::fmt;
+use std::fmt::{Display, Formatter, Write};
+use vx_command_pages::{Shown, nearest_field};
 use vx_dtype::{DType, FieldName, FieldNames, StructFields, VortexError, VortexResult};
 use vx_source::{Expected, ParseError, parse_type};
+use vx_value::{Field, FieldPath};
 
 /// The type that is said of a column.
 #[derive(Clone, Copy, Debug)]
@@ -13,6 +16,41 @@ pub struct ColumnType<'a> {
     pub name: &'a str,
     /// Its type, as source text.
     pub text: &'a str,
+}
+
+impl ColumnType<'_> {
+    /// Whether what stands there is the column, or inside it.
+    pub(crate) fn leads_to(&self, at: &FieldPath) -> bool {
+        if let Some(Field::Name(first)) = at.parts().first()
+            && first.as_str() == self.name
+        {
+            return true;
+        }
+        let mut parts = at.parts().iter();
+        for word in self.name.split('.') {
+            match parts.next() {
+                Some(Field::Name(part)) if part.as_str() == word => {}
+                _ => return false,
+            }
+        }
+        true
+    }
+}
+
+/// A column as it is called: the names that lead to it, with a dot between them.
+#[derive(Clone, Copy)]
+pub(crate) struct ColumnName<'a>(pub(crate) &'a FieldPath);
+
+impl Display for ColumnName<'_> {
+    fn fmt<W: Write>(&self, f: &mut Formatter<W>) -> fmt::Result {
+        let mut before = "";
+        for part in self.0.parts() {
+            let Field::Name(name) = part;
+            write!(f, "{before}{}", Shown(name.as_str()))?;
+            before = ".";
+        }
+        Ok(())
+    }
 }
 
 /// Why such types aren't those of some columns.

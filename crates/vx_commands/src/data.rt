@@ -1,6 +1,7 @@
 // Files of records, by the form that they have.
 use crate::columns::{ColumnType, names_of, types_of, with_columns};
 use crate::error::RowsError;
+use crate::guessed::UntypedRecords;
 use crate::stop::Stop;
 use std::alloc::Global;
 use std::io;
@@ -12,6 +13,7 @@ use vx_data::{
 };
 use vx_dtype::DType;
 use vx_records::RecordsError;
+use vx_value::FieldPath;
 
 /// In what form records stand in a file.
 #[derive(Clone, Copy, Debug, PartialEq, Eq)]
@@ -74,6 +76,13 @@ pub struct Guess<'a> {
     pub decimals: bool,
 }
 
+impl Guess<'_> {
+    /// Whether the type of what stands there is said, and not guessed.
+    pub(crate) fn says(self, at: &FieldPath) -> bool {
+        self.columns.iter().any(|said| said.leads_to(at))
+    }
+}
+
 impl Default for Guess<'_> {
     fn default() -> Self {
         Guess {
@@ -131,18 +140,16 @@ pub trait Source: Read {
 /// source goes back. Fails as `guessed_type` does.
 pub(crate) fn inferred_type<D: Source>(
     alloc: Global,
-    format: DataFormat<'_>,
-    guess: Guess<'_>,
-    skips: bool,
+    records: UntypedRecords<'_>,
     data: &mut D,
 ) -> Result<(DType, Vec<u8>), Stop> {
     if went_back(data)? {
-        let dtype = guessed_type(alloc, format, guess, skips, &mut *data)?;
+        let dtype = guessed_type(alloc, records, &mut *data)?;
         went_back(data)?;
         return Ok((dtype, Vec::new(alloc)));
     }
     let mut recorded = Recorded::new(alloc, data);
-    let dtype = guessed_type(alloc, format, guess, skips, &mut recorded)?;
+    let dtype = guessed_type(alloc, records, &mut recorded)?;
     let (read, _) = recorded.into_parts();
     Ok((dtype, read))
 }
@@ -154,15 +161,19 @@ fn went_back<D: Source>(data: &mut D) -> Result<bool, RowsError> {
     }
 }
 
-/// The narrowest type of the records that are looked at, but for the columns whose types are said, and perhaps without the
-/// records that can't be read. Fails at a type that can't be read, as `infer_json_type_by` and `infer_csv_type_by` of `vx_data` do, and at a column that isn't there.
-pub(crate) fn guessed_type<D: Read + Drop>(
+// The narrowest type of the records that are looked at, but for the columns whose types are said, and perhaps without the
+// records that can't be read. Fails at a type that can't be read, as `infer_json_type_by` and `infer_csv_type_by` of `vx_data` do, and at a column that isn't there.
+fn guessed_type<D: Read + Drop>(
     alloc: Global,
-    format: DataFormat<'_>,
-    guess: Guess<'_>,
-    skips: bool,
+    records: UntypedRecords<'_>,
     data: D,
 ) -> Result<DType, Stop> {
+    let UntypedRecords {
+        format,
+        guess,
+        skips,
+        ..
+    } = records;
     let types = types_of(alloc, guess.columns)?;
     let said = names_of(alloc, guess.columns)?;
     let guessing = Guessing {

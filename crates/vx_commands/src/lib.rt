@@ -11,6 +11,7 @@ mod data;
 mod error;
 mod evaluated;
 mod explained;
+mod expressions;
 mod filtered;
 mod guessed;
 mod message;

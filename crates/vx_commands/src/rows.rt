@@ -1,13 +1,11 @@
 // A run of the program over the records of a file.
 use crate::asked::asked_paths;
 use crate::chunk_plan::{ChunksForm, plan_chunks};
-use crate::data::{
-    DataFormat, GUESSED_JSON, Guess, Schema, Source, buffered, inferred_type, opened, unwritten,
-};
+use crate::data::{DataFormat, GUESSED_JSON, Schema, Source, buffered, opened, unwritten};
 use crate::error::RowsError;
 use crate::explained::{ChunksQuery, explain_chunks};
+use crate::expressions::{Expressions, read_expressions};
 use crate::notes::Notes;
-use crate::number_texts::{GuessedRecords, number_texts};
 use crate::outputs::OutputFormat;
 use crate::records_query::RecordsQuery;
 use crate::run::tell_message;
@@ -16,10 +14,7 @@ use crate::tasks::{ReadCommand, worked, written};
 use std::alloc::Global;
 use std::io::{Cursor, Read, Write};
 use std::num::NonZeroUsize;
-use vx_command_pages::{
-    CommandError, Input, ReadQuery, Shown, Status, explanation_of, read_over, read_query,
-    read_written,
-};
+use vx_command_pages::{CommandError, Input, Shown, Status, explanation_of};
 use vx_data::{CsvFormat, DataError, JsonFormat, WriteError};
 use vx_dtype::DType;
 use vx_prune::ChunkRecords;
@@ -70,7 +65,7 @@ pub struct RowsCommand<'a> {
     pub work: RecordsTask,
     /// The expression.
     pub expression: Input<'a>,
-    /// What is selected of the records of which it is true.
+    /// What is selected of the records of which it is true: `$` where a task selects nothing.
     pub select: Input<'a>,
     /// The type of the records.
     pub schema: Schema<'a>,
@@ -84,12 +79,9 @@ pub struct RowsCommand<'a> {
     pub skips: bool,
 }
 
-impl<'a> RowsCommand<'a> {
-    // The same, once its expression is read.
-    fn read<'p>(&self, placed: &'p Placed) -> ReadCommand<'p>
-    where
-        'a: 'p,
-    {
+impl RowsCommand<'_> {
+    // The same, once its expressions are read.
+    fn read<'p>(&self, placed: &'p Placed, value: &'p Placed) -> ReadCommand<'p> {
         let query = RecordsQuery {
             placed,
             limit: self.limit,
@@ -97,7 +89,7 @@ impl<'a> RowsCommand<'a> {
         ReadCommand {
             work: self.work,
             query,
-            select: self.select.text,
+            value,
         }
     }
 }
@@ -141,7 +133,7 @@ fn gone_over<D: Source + Drop, W: Write, E: Write>(
     out: &mut W,
     err: &mut E,
 ) -> Result<(), Stop> {
-    let (query, read) = read_command(alloc, command, &mut *data)?;
+    let (expressions, read) = read_expressions(alloc, command, &mut *data)?;
     let data = Cursor::new(read).chain(data);
     let run = Run {
         alloc,
@@ -151,25 +143,10 @@ fn gone_over<D: Source + Drop, W: Write, E: Write>(
     };
     match (command.work, command.format) {
         (RecordsTask::ExplainChunks | RecordsTask::PlanChunks(_), _) => {
-            Ok(run.over_chunks(&query, data)?)
+            Ok(run.over_chunks(&expressions, data)?)
         }
-        (_, DataFormat::Json) => run.over_json(query, data),
-        (_, DataFormat::Csv(format)) => run.over_csv(format, query, data),
-    }
-}
-
-// The expression over the type of the records, and what was read of these and is to be read again.
-fn read_command<D: Source>(
-    alloc: Global,
-    command: &RowsCommand<'_>,
-    data: &mut D,
-) -> Result<(ReadQuery, Vec<u8>), Stop> {
-    match command.schema {
-        Schema::Said(schema) => {
-            let query = read_query(alloc, command.expression.text, schema.text)?;
-            Ok((query, Vec::new(alloc)))
-        }
-        Schema::Guessed(guess) => inferred(alloc, command, guess, data),
+        (_, DataFormat::Json) => run.over_json(expressions, data),
+        (_, DataFormat::Csv(format)) => run.over_csv(format, expressions, data),
     }
 }
 
@@ -184,37 +161,47 @@ struct Run<'r, 'a, W: Write, E: Write> {
 
 impl<W: Write, E: Write> Run<'_, '_, W, E> {
     // Goes over the records of a file of JSON.
-    fn over_json<D: Read + Drop>(self, query: ReadQuery, data: D) -> Result<(), Stop> {
+    fn over_json<D: Read + Drop>(self, expressions: Expressions, data: D) -> Result<(), Stop> {
         let lines = buffered(self.alloc, data)?;
-        let ReadQuery { placed, scope } = query;
+        let Expressions {
+            placed,
+            value,
+            scope,
+        } = expressions;
         let scope = Box::into_inner(scope);
         let schema = self.command.schema;
         let format = json_format(schema, &scope);
         let records = JsonRecords::with_others(self.alloc, scope, format, schema.others(), lines);
-        self.over(&placed, records)
+        let read = self.command.read(&placed, &value);
+        self.over(&read, records)
     }
 
     // Goes over the records of a CSV file of that format.
     fn over_csv<D: Read + Drop>(
         self,
         format: CsvFormat<'_>,
-        query: ReadQuery,
+        expressions: Expressions,
         data: D,
     ) -> Result<(), Stop> {
-        let ReadQuery { placed, scope } = query;
+        let Expressions {
+            placed,
+            value,
+            scope,
+        } = expressions;
         let scope = Box::into_inner(scope);
+        let read = self.command.read(&placed, &value);
         let others = self.command.schema.others();
-        let paths = asked_paths(self.alloc, self.command, &placed, &scope);
+        let paths = asked_paths(self.alloc, &read, &scope);
         let records = opened(CsvRows::open_others(self.alloc, scope, format, others, data))?;
         let records = match paths {
             Some(paths) => records.along(&paths),
             None => records,
         };
-        self.over(&placed, records)
+        self.over(&read, records)
     }
 
     // Does with the records what the command says, and tells what may be meant otherwise.
-    fn over<R: RecordReader + Drop>(self, placed: &Placed, records: R) -> Result<(), Stop> {
+    fn over<R: RecordReader + Drop>(self, read: &ReadCommand<'_>, records: R) -> Result<(), Stop> {
         let Run {
             alloc,
             command,
@@ -227,29 +214,36 @@ impl<W: Write, E: Write> Run<'_, '_, W, E> {
             out,
             err: &mut *err,
         };
-        run.over_records(placed, records)?;
+        run.over_records(read, records)?;
         if command.work.is_noted() {
             // (a note changes nothing, and so does one that isn't written)
-            let _ = write!(err, "{}", Notes::of(command.expression.text, placed));
+            let _ = write!(
+                err,
+                "{}",
+                Notes::of(command.expression.text, read.query.placed)
+            );
         }
         Ok(())
     }
 
     // Does with the records what the command says, and tells how many were left out that can't be read.
-    fn over_records<R: RecordReader + Drop>(self, placed: &Placed, records: R) -> Result<(), Stop> {
+    fn over_records<R: RecordReader + Drop>(
+        self,
+        read: &ReadCommand<'_>,
+        records: R,
+    ) -> Result<(), Stop> {
         let Run {
             alloc,
             command,
             out,
             err,
         } = self;
-        let read = command.read(placed);
         let mut records = records;
         if !command.skips {
-            return worked(alloc, &read, &mut records, out, err);
+            return worked(alloc, read, &mut records, out, err);
         }
         let mut records = Skipping::new(records);
-        let done = worked(alloc, &read, &mut records, out, &mut *err);
+        let done = worked(alloc, read, &mut records, out, &mut *err);
         if let Some(first) = records.first_refusal() {
             unwritten(told_skipped(records.skipped(), first, err))?;
         }
@@ -257,7 +251,11 @@ impl<W: Write, E: Write> Run<'_, '_, W, E> {
     }
 
     // Does with the statistics of chunks that the records are what the command says.
-    fn over_chunks<D: Read + Drop>(self, query: &ReadQuery, data: D) -> Result<(), RowsError> {
+    fn over_chunks<D: Read + Drop>(
+        self,
+        expressions: &Expressions,
+        data: D,
+    ) -> Result<(), RowsError> {
         let Run {
             alloc,
             command,
@@ -265,9 +263,9 @@ impl<W: Write, E: Write> Run<'_, '_, W, E> {
             ..
         } = self;
         if command.work == RecordsTask::ExplainChunks {
-            write_explanation(alloc, query, &mut *out)?;
+            write_explanation(alloc, expressions, &mut *out)?;
         }
-        let Ok(chunks) = ChunkRecords::new(alloc, &query.scope) else {
+        let Ok(chunks) = ChunkRecords::new(alloc, &expressions.scope) else {
             return Err(RowsError::Query(CommandError::OutOfMemory));
         };
         let Ok(dtype) = chunks.record_type() else {
@@ -275,8 +273,8 @@ impl<W: Write, E: Write> Run<'_, '_, W, E> {
         };
         let mut records = JsonRecords::new(alloc, dtype, buffered(alloc, data)?);
         let query = ChunksQuery {
-            placed: &query.placed,
-            scope: &query.scope,
+            placed: &expressions.placed,
+            scope: &expressions.scope,
             chunks: &chunks,
             limit: command.limit,
         };
@@ -316,44 +314,12 @@ fn told_skipped<E: Write>(count: u64, first: &DataError, err: &mut E) -> Result<
     Ok(())
 }
 
-// The expression over the narrowest type of the first records, and what was read of these and is to be read again.
-fn inferred<D: Source>(
-    alloc: Global,
-    command: &RowsCommand<'_>,
-    guess: Guess<'_>,
-    data: &mut D,
-) -> Result<(ReadQuery, Vec<u8>), Stop> {
-    let written = read_written(alloc, command.expression.text)?;
-    let (dtype, read) = inferred_type(alloc, command.format, guess, command.skips, data)?;
-    let Ok(scope) = Box::new(alloc, dtype) else {
-        return Err(Stop::from(CommandError::OutOfMemory));
-    };
-    match read_over(alloc, command.expression.text, written, &scope) {
-        Ok(placed) => Ok((ReadQuery { placed, scope }, read)),
-        Err(CommandError::Unfit(literal)) => {
-            let records = GuessedRecords {
-                format: command.format,
-                dtype: scope,
-                limit: guess.records,
-                data: Cursor::new(read).chain(data),
-            };
-            let texts = number_texts(alloc, command.expression.text, &literal, records);
-            let error = RowsError::Query(CommandError::Unfit(literal));
-            Err(match texts {
-                Some(texts) => Stop::Numbers(error, texts),
-                None => Stop::Rows(error),
-            })
-        }
-        Err(error) => Err(Stop::from(error)),
-    }
-}
-
 // Writes what becomes of the expression.
 fn write_explanation<W: Write>(
     alloc: Global,
-    query: &ReadQuery,
+    expressions: &Expressions,
     out: &mut W,
 ) -> Result<(), RowsError> {
-    let page = explanation_of(alloc, &query.placed, &query.scope)?;
+    let page = explanation_of(alloc, &expressions.placed, &expressions.scope)?;
     unwritten(written(out, page.as_str()))
 }

@@ -1,5 +1,5 @@
 // What stops a run over the records of a file, and its message.
-use crate::columns::ColumnError;
+use crate::columns::{ColumnError, ColumnName};
 use crate::data::{Guess, Schema};
 use crate::error::RowsError;
 use crate::message::RowsMessage;
@@ -11,7 +11,7 @@ use vx_command_pages::{CommandError, Input, Shown, Span, Status};
 use vx_data::{DataError, Expected};
 use vx_dtype::VortexError;
 use vx_records::RecordsError;
-use vx_value::{Field, FieldPath};
+use vx_value::FieldPath;
 
 /// Why a run ends early.
 #[derive(Debug, Drop)]
@@ -22,15 +22,44 @@ pub(crate) enum Stop {
     Column(ColumnError),
     /// At the expression that is selected of records that are kept.
     Select(RowsError),
-    /// At a number of the expression that stands beside a column of such texts.
-    Numbers(RowsError, NumberTexts),
+    /// At a number of that expression that stands beside a column of such texts.
+    Numbers {
+        of: CommandText,
+        error: RowsError,
+        texts: NumberTexts,
+    },
+}
+
+/// Which of the expressions that a command is given.
+#[derive(Clone, Copy, Debug)]
+pub(crate) enum CommandText {
+    /// The one that it is about.
+    Expression,
+    /// What is selected of records of which that is true.
+    Select,
+}
+
+impl CommandText {
+    /// Why a run ends that stops with that error of it.
+    pub(crate) fn stop(self, error: CommandError) -> Stop {
+        let error = RowsError::Query(error);
+        match self {
+            CommandText::Expression => Stop::Rows(error),
+            CommandText::Select => Stop::Select(error),
+        }
+    }
 }
 
 impl Stop {
+    ghost use Rattle.vx_commands.specs.Guesses.{IsOfError};
+
     /// How the run ends.
-    pub(crate) fn status(&self) -> Status {
+    #[tactic(auto, using(crate::proofs::Stopped::ends))]
+    pub(crate) fn status(&self) -> Status
+        ensures { IsOfError result }
+    {
         match self {
-            Stop::Rows(error) | Stop::Select(error) | Stop::Numbers(error, _) => error.status(),
+            Stop::Rows(error) | Stop::Select(error) | Stop::Numbers { error, .. } => error.status(),
             Stop::Column(ColumnError::OutOfMemory) => Status::Failed,
             Stop::Column(ColumnError::Unread { .. } | ColumnError::Missing { .. }) => Status::Wrong,
         }
@@ -40,7 +69,7 @@ impl Stop {
     pub(crate) fn is_closed_pipe(&self) -> bool {
         match self {
             Stop::Rows(error) | Stop::Select(error) => error.is_closed_pipe(),
-            Stop::Column(_) | Stop::Numbers(..) => false,
+            Stop::Column(_) | Stop::Numbers { .. } => false,
         }
     }
 
@@ -113,8 +142,8 @@ impl Display for StopMessage<'_> {
                 self.write_help(error, f)
             }
             Stop::Select(error) => self.write_error(error, self.select, f),
-            Stop::Numbers(error, texts) => {
-                self.write_error(error, self.expression, f)?;
+            Stop::Numbers { of, error, texts } => {
+                self.write_error(error, self.text(*of), f)?;
                 write!(f, "\n  = help: {texts}")?;
                 self.write_floats(f)
             }
@@ -123,7 +152,15 @@ impl Display for StopMessage<'_> {
     }
 }
 
-impl StopMessage<'_> {
+impl<'a> StopMessage<'a> {
+    // That expression.
+    fn text(&self, of: CommandText) -> Input<'a> {
+        match of {
+            CommandText::Expression => self.expression,
+            CommandText::Select => self.select,
+        }
+    }
+
     // The error, of that expression.
     fn write_error<W: Write>(
         &self,
@@ -212,23 +249,6 @@ impl Guess<'_> {
             _ => None,
         }
     }
-
-    // Whether the type of what stands there is said.
-    fn says(self, at: &FieldPath) -> bool {
-        self.columns.iter().any(|said| leads_to(said.name, at))
-    }
-}
-
-// Whether what stands there is the column of that name, or inside it.
-fn leads_to(name: &str, at: &FieldPath) -> bool {
-    let mut parts = at.parts().iter();
-    for word in name.split('.') {
-        match parts.next() {
-            Some(Field::Name(part)) if part.as_str() == word => {}
-            _ => return false,
-        }
-    }
-    true
 }
 
 // Whether a value of another type was expected.
@@ -256,15 +276,8 @@ fn write_remedy<W: Write>(guess: Guess<'_>, at: &FieldPath, f: &mut Formatter<W>
         count => write!(f, "{count} records")?,
     }
     f.write_str(": --guess all takes that of all, ")?;
-    if !at.parts().is_empty() {
-        f.write_str("--type ")?;
-        let mut before = "";
-        for part in at.parts() {
-            let Field::Name(name) = part;
-            write!(f, "{before}{}", Shown(name.as_str()))?;
-            before = ".";
-        }
-        f.write_str("=TYPE says one, ")?;
+    if !at.is_root() {
+        write!(f, "--type {}=TYPE says one, ", ColumnName(at))?;
     }
     f.write_str("--schema says all")
 }

@@ -12,21 +12,21 @@ use crate::selected::{SelectQuery, select};
 use crate::stop::Stop;
 use std::alloc::Global;
 use std::io::Write;
-use vx_command_pages::{CommandError, Shown, explanation_of, read_over, read_written};
+use vx_command_pages::{CommandError, Shown, explanation_of};
 use vx_data::WriteError;
 use vx_dtype::DType;
 use vx_records::RecordReader;
 use vx_source::{Placed, TypeText};
 
-/// A command whose expression was read.
+/// A command whose expressions were read.
 #[derive(Clone, Copy)]
 pub(crate) struct ReadCommand<'a> {
     /// What is done with the records.
     pub(crate) work: RecordsTask,
     /// The expression, and how many records are gone over at most.
     pub(crate) query: RecordsQuery<'a>,
-    /// The text of what is selected.
-    pub(crate) select: &'a str,
+    /// What is selected.
+    pub(crate) value: &'a Placed,
 }
 
 /// Does with the records what the command says.
@@ -76,13 +76,9 @@ fn selected<R: RecordReader, W: Write>(
     records: &mut R,
     out: &mut W,
 ) -> Result<(), Stop> {
-    let value = match selected_value(alloc, command.select, records.dtype()) {
-        Ok(value) => value,
-        Err(error) => return Err(Stop::Select(RowsError::Query(error))),
-    };
     let query = SelectQuery {
         placed: command.query.placed,
-        value: &value,
+        value: command.value,
         limit: command.query.limit,
     };
     let mut output = Output::new(alloc, format, out);
@@ -90,16 +86,6 @@ fn selected<R: RecordReader, W: Write>(
     let finished = unwritten(output.finish(alloc));
     selected?;
     Ok(finished?)
-}
-
-/// What is selected of records of that type.
-pub(crate) fn selected_value(
-    alloc: Global,
-    text: &str,
-    scope: &DType,
-) -> Result<Box<Placed>, CommandError> {
-    let written = read_written(alloc, text)?;
-    read_over(alloc, text, written, scope)
 }
 
 // Writes what the expression means at the records.
