@@ -127,21 +127,24 @@ fn number_text<R: RecordReader + Drop>(
     let mut records = records;
     let mut first = None;
     for _ in 0..untyped.guess.records {
-        match records.read(alloc) {
-            Ok(Some(record)) => {
-                let value = value_at(records.dtype(), &record.row, column.parts())?;
-                if !is_number(value) {
-                    return None;
-                }
-                if first.is_none()
-                    && let Value::Utf8(text) = value
-                {
-                    first = Some(text.clone().ok()?);
-                }
-            }
+        let record = match records.read(alloc) {
+            Ok(Some(record)) => record,
             Ok(None) => return first,
-            Err(DataError::Unexpected { .. }) if untyped.skips => {}
-            Err(_) => return None,
+            Err(error) => {
+                if untyped.skips && matches!(&error, DataError::Unexpected { .. }) {
+                    continue;
+                }
+                return None;
+            }
+        };
+        let value = value_at(records.dtype(), &record.row, column.parts())?;
+        if !is_number(value) {
+            return None;
+        }
+        if first.is_none()
+            && let Value::Utf8(text) = value
+        {
+            first = Some(text.clone().ok()?);
         }
     }
     first
