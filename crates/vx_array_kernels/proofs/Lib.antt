@@ -16,3 +16,4 @@ mod AllValid
 mod Keyed
 mod FloatsComputed
 mod ByBytes
+pub mod Members
