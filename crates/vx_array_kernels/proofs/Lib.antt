@@ -17,3 +17,4 @@ mod Keyed
 mod FloatsComputed
 mod ByBytes
 pub mod Members
+pub mod Among
