@@ -4,7 +4,7 @@ pub mod Cases
 pub mod Placing
 pub mod Keywords
 pub mod Marks
-pub mod Members
+pub mod EqualItems
 pub mod NameLists
 pub mod Packs
 pub mod ReadAll
