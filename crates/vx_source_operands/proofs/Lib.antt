@@ -5,6 +5,7 @@ pub mod Placing
 pub mod Keywords
 pub mod Marks
 pub mod EqualItems
+pub mod Gathering
 pub mod NameLists
 pub mod Packs
 pub mod ReadAll
