@@ -1,13 +1,12 @@
 // `in` over literals that are settled: a search in one list of them.
-ghost use Rattle.std.specs.Prelude.{◌≡◌, ◌<◌, [], ◌∷◌, length, map, option_map, IfErr, IfOk, IfSome};
-ghost use Rattle.vx_fn.specs.Functions.{list_contains, literal};
+ghost use Rattle.std.specs.Prelude.{◌≡◌, ◌<◌, ◌∷◌, length, option_map, IfErr, IfOk, IfSome, Some};
+ghost use Rattle.vx_fn.specs.Functions.{Function};
 ghost use Rattle.vx_fn.specs.Views.{function_of};
-ghost use Rattle.vx_tree.specs.Trees.{call, no_tree, tree};
 ghost use Rattle.vx_value.specs.Types.{LogicalType};
-ghost use Rattle.vx_source_grammar.specs.Listing.{listed, scalars_in};
+ghost use Rattle.vx_source_grammar.specs.Listing.{scalars_in};
 ghost use Rattle.vx_source_operands.specs.ListViews.{lent_scalars};
 ghost use Rattle.vx_source_over.specs.Reading.{Settles};
-ghost use Rattle.vx_source_over.specs.Settling.{list_around, list_from, node_with, odd_one};
+ghost use Rattle.vx_source_over.specs.Settling.{contained, list_around, list_from, node_with, odd_one};
 ghost use Rattle.vx_source_over.specs.Views.{EachTyped, IsTyped, other_of, settled_tree, settled_trees};
 ghost use Rattle.vx_source_over.specs.declared.error.OverError.TheVariants.{OutOfMemory};
 
@@ -119,7 +118,7 @@ fn odd_one<'a>(first: &'a Scalar, rest: &[&'a Scalar]) -> (usize, &'a Scalar)
 // Whether the operand, which stands behind the first literal, is an element of the list.
 fn contained(alloc: Global, list: Scalar, below: Vec<Settled>) -> Result<Settled, OverError>
     requires { 1 < length below.items }
-    ensures tree { (x : Settled) → IfOk result (λ made. settled_tree made ≡ call list_contains (tree (call (literal list.type list.value) no_tree) (tree (settled_tree (get_or below.items 1 x)) no_tree))) }
+    ensures tree { (f : Function) → IfOk result (λ made. settled_tree made ≡ contained f (settled_trees below.items) (Some list)) }
     ensures typed { (s : LogicalType) → EachTyped s below.items → IfOk result (IsTyped s) }
     ensures memory { IfErr result (λ e. e ≡ OutOfMemory) }
 {
