@@ -1,5 +1,5 @@
 -- The scalars of some trees, and the union of their types, as far as the loops have come.
-use Rattle.std.proofs.Common.{◌≡◌, ℕ, ◌+◌, ◌<◌, ◌≤◌, List, [], ◌∷◌, ◌++◌, length, get_or, drop, drop_of_length-le, map, refl, sym, ap, ◌∙◌, append_assoc}
+use Rattle.std.proofs.Common.{◌≡◌, ◌≢◌, ℕ, ◌+◌, ◌<◌, ◌≤◌, List, [], ◌∷◌, ◌++◌, length, get_or, drop, drop_of_length-le, map, refl, sym, ap, ◌∙◌, append_assoc, arith, Vec}
 use Rattle.std.proofs.lemmas.List.{append-nil, map-append}
 use Rattle.std.specs.Borrow.{Bor}
 use Rattle.std.specs.Option.{is_some}
@@ -7,16 +7,25 @@ use Rattle.std.specs.Prelude.{Option, Some, None, option_map, option_and_then, t
 use Rattle.vx_dtype.proofs.Lists.{drop_next}
 use Rattle.vx_value.specs.Columns.{Constant}
 use Rattle.vx_value.specs.Joins.{union, union_all, union_of}
-use Rattle.vx_value.specs.Types.{LogicalType, Datum}
-use Rattle.vx_tree.specs.Trees.{Tree}
-use Rattle.vx_tree.specs.Views.{trees_from}
-use Rattle.vx_source_grammar.specs.Listing.{scalar_at, scalars_in, types_in, values_in}
+use Rattle.vx_value.specs.Types.{LogicalType, ty, list, Datum, list_of}
+use Rattle.std.specs.declared.alloc.Global.{Global}
+use Rattle.std.specs.declared.sync.Arc.{Arc}
+use Rattle.vx_value.specs.Fields.{data_of}
+use Rattle.vx_fn.specs.Functions.{Function, literal}
+use Rattle.vx_fn.specs.Views.{function_of}
+use Rattle.vx_fn.specs.declared.function.ScalarFnRef.{ScalarFnRef}
+use Rattle.vx_tree.specs.declared.expression.Expression as Unbound
+use Rattle.vx_tree.specs.declared.expression.Expression.{Expression}
+use Rattle.vx_tree.proofs.Held.{tree_of-Scalar}
+use Rattle.vx_tree.specs.Trees.{Tree, call, Trees, no_tree, tree}
+use Rattle.vx_tree.specs.Views.{tree_of, trees_from, trees_of}
+use Rattle.vx_source_types.specs.Literals.{fitting}
+use Rattle.vx_source_grammar.specs.Listing.{listed, scalar_at, scalars_in, types_in, values_in}
 use Rattle.vx_source_operands.specs.ListViews.{lent_scalars}
 
 -- the scalars before those of the rest
 abbrev pub onto : List Constant → Option (List Constant) → Option (List Constant)
 onto made rest = option_map (λ cs. made ++ cs) rest
-
 
 onto_push : (made : List Constant) (c : Constant) (rest : Option (List Constant)) → onto (made ++ c ∷ []) rest ≡ onto made (option_map (λ cs. c ∷ cs) rest)
 onto_push made c (Some cs) = ap (λ xs. Some xs) (append_assoc made (c ∷ []) cs)
@@ -91,3 +100,28 @@ module _ (xs : List (Bor Constant)) where
 
   pub values_end : (made : List Datum) (i : ℕ) (all : List Datum) → length xs ≤ i → all ≡ made ++ values_from i → made ≡ all
   values_end made i all h so_far = sym (so_far ∙ ap (λ ys. made ++ values_in (lent_scalars ys)) (drop_of_length-le xs h) ∙ append-nil made)
+
+-- the list of the values, of elements of the union of the types
+pub listed_is : (cs : List Constant) (t : LogicalType) (vs : List Datum) → Some t ≡ union_of (types_in cs) → vs ≡ values_in cs → fitting (ty (list t) false) (list_of (data_of vs)) ≡ listed cs
+listed_is cs t vs joined same =
+    ap (λ ws. fitting (ty (list t) false) (list_of (data_of ws))) same ∙ ap (option_and_then (λ u. fitting (ty (list u) false) (list_of (data_of (values_in cs))))) joined
+
+-- ---- the scalar of a literal
+
+with_children : (f : Function) (e : Tree) (es : Trees) → scalar_at (call f (tree e es)) ≡ None
+with_children (literal t v) e es = refl
+with_children f e es = refl
+
+pub seen_leaf : (e : Expression) (f : ScalarFnRef) (all : Arc (Vec Expression Global) Global) (o : Option Constant) → e ≡ Unbound.Scalar f all → length all.value.items ≡ 0 → o ≡ scalar_at (call (function_of f) no_tree) → o ≡ scalar_at (tree_of e)
+seen_leaf e f all o is none h = h ∙ sym (ap (λ x. scalar_at (tree_of x)) is ∙ ap scalar_at (tree_of-Scalar f all) ∙ go all.value.items none)
+  where
+    go : (es : List Expression) → length es ≡ 0 → scalar_at (call (function_of f) (trees_of es)) ≡ scalar_at (call (function_of f) no_tree)
+    go [] h = refl
+    go (x ∷ es) h = absurd (omega arith)
+
+pub seen_node : (e : Expression) (f : ScalarFnRef) (all : Arc (Vec Expression Global) Global) → e ≡ Unbound.Scalar f all → length all.value.items ≢ 0 → None ≡ scalar_at (tree_of e)
+seen_node e f all is some = sym (ap (λ x. scalar_at (tree_of x)) is ∙ ap scalar_at (tree_of-Scalar f all) ∙ go all.value.items some)
+  where
+    go : (es : List Expression) → length es ≢ 0 → scalar_at (call (function_of f) (trees_of es)) ≡ None
+    go [] h = absurd (h refl)
+    go (x ∷ es) h = with_children (function_of f) (tree_of x) (trees_of es)

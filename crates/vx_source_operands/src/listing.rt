@@ -1,8 +1,12 @@
 // Literals that stand in one list.
-ghost use Rattle.std.specs.Prelude.{◌≡◌, IfOk, map, option_map};
+ghost use Rattle.std.specs.Prelude.{◌≡◌, IfOk, false, map, option_map};
+ghost use Rattle.vx_fn.specs.Views.{function_of};
+ghost use Rattle.vx_tree.specs.Trees.{call, no_tree};
 ghost use Rattle.vx_tree.specs.Views.{tree_of};
 ghost use Rattle.vx_value.specs.Joins.{union, union_of};
-ghost use Rattle.vx_value.specs.Views.{type_of, value_of};
+ghost use Rattle.vx_value.specs.Types.{ty, list, list_of};
+ghost use Rattle.vx_value.specs.Views.{data_view, type_of, value_of};
+ghost use Rattle.vx_source_types.specs.Literals.{fitting};
 ghost use Rattle.vx_source_grammar.specs.Listing.{listed, scalar_at, types_in, values_in};
 ghost use Rattle.vx_source_operands.specs.ListViews.{lent_scalars};
 
@@ -24,8 +28,19 @@ pub fn scalar_at(e: &Expression) -> Option<&Scalar>
     else {
         return None;
     };
+    if children.is_empty() {
+        literal_of(scalar_fn)
+    } else {
+        None
+    }
+}
+
+// The scalar that the function is as a literal.
+fn literal_of(scalar_fn: &ScalarFnRef) -> Option<&Scalar>
+    ensures { option_map (λ c. c.now) result ≡ scalar_at (call (function_of scalar_fn.now) no_tree) }
+{
     match scalar_fn {
-        ScalarFnRef::Literal(scalar) if children.is_empty() => Some(scalar),
+        ScalarFnRef::Literal(scalar) => Some(scalar),
         _ => None,
     }
 }
@@ -37,9 +52,24 @@ pub fn listed(alloc: Global, scalars: &[&Scalar]) -> Result<Option<Scalar>, Allo
     let Some(element) = element_type(alloc, scalars)? else {
         return Ok(None);
     };
+    let values = values_of(alloc, scalars)?;
+    let made = list_of(alloc, element, values)?;
+    Ok(made)
+}
+
+// The list of the values, if each is one of the type.
+fn list_of(alloc: Global, element: DType, values: Vec<Value>) -> Result<Option<Scalar>, AllocError>
+    ensures { IfOk result (λ made. made ≡ fitting (ty (list (type_of element)) false) (list_of (data_view values.items))) }
+{
     let dtype = DType::List(Arc::new(alloc, element)?, Nullability::NonNullable);
-    let values = Value::List(values_of(alloc, scalars)?);
-    Ok(Scalar::try_new(dtype, values).ok())
+    Ok(fitting(dtype, Value::List(values)))
+}
+
+// The value as a scalar of the type, if it is one of it.
+fn fitting(dtype: DType, value: Value) -> Option<Scalar>
+    ensures { result ≡ fitting (type_of dtype) (value_of value) }
+{
+    Scalar::try_new(dtype, value).ok()
 }
 
 // The union of the scalars' types, if there is one.
