@@ -1,7 +1,8 @@
 -- What a command reads, and what stops it.
 use Rattle.std.specs.Prelude.{◌≡◌, ◌⊎◌, ◌≤◌, ℕ, List, length, drop, Err}
 use Rattle.vx_source_types.specs.declared.error.ParseError.TheVariants.{Unexpected as Stopped}
-use Rattle.vx_source_parser.specs.Placed.{StopsOpen}
+use Rattle.vx_source_parser.specs.Placed.{StopsOpen, tree_in}
+use Rattle.vx_source_parser.specs.declared.whole.Placed.{Placed}
 use Rattle.vx_source_over.specs.declared.error.OverError.{OverError}
 use Rattle.vx_source_over.specs.declared.error.OverError.TheVariants.{Misfit, Unexpected}
 use Rattle.vx_source_over.specs.Reading.{IsReadOpen, ReadsOver, RefusesOver}
@@ -14,6 +15,7 @@ use Rattle.vx_source_types.specs.Reading.{IsRead, Stops}
 use Rattle.vx_source_types.specs.TypeReading.{type_step, type_start}
 use Rattle.vx_source_grammar.specs.ExpressionReading.{expression_step}
 use Rattle.vx_source_grammar.specs.States.{expression_start}
+use Rattle.vx_command_pages.specs.Spans.{IsRefusalAt}
 use Rattle.vx_command_pages.specs.declared.error.CommandError.{CommandError}
 use Rattle.vx_command_pages.specs.declared.error.CommandError.TheVariants.{OutOfMemory, UnreadExpression, UnreadSchema, Unfit, Refused}
 use Rattle.vx_command_pages.specs.declared.error.UnfitLiteral.{UnfitLiteral}
@@ -104,6 +106,10 @@ IsUnreadQuery text schema (UnreadSchema at expected) = IsReadUpTo text schema at
 IsUnreadQuery text schema (Unfit literal) = IsRefusedOverSchema text schema (Unfit literal)
 IsUnreadQuery text schema (Refused span refusal remedy) = ⊥
 
+-- the texts are read as an expression, with the bytes of its nodes, and a type, and so much holds of these
+abbrev pub ReadsWhere : List ℕ → List ℕ → (Placed → LogicalType → Type 0) → Type 0
+ReadsWhere text schema P = (placed : Placed) × (s : LogicalType) × ReadsAs text s (tree_in placed) × ReadsType schema s × P placed s
+
 -- the refusal is the first of the expression over the scope's type, or want of memory
 abbrev pub IsRefusedWith : Tree → LogicalType → VortexError → Type 0
 IsRefusedWith e s refusal = (refusal ≡ Exhausted) ⊎ (typed e s ≡ Err refusal)
@@ -117,10 +123,10 @@ IsRefusal e s (UnreadSchema at expected) = ⊥
 IsRefusal e s (Unfit literal) = ⊥
 
 -- the error is what stops reading the text, or else the schema, or else the text over rows of its type, or the first refusal of
--- what they are read as, or want of memory
+-- what they are read as, at the bytes that the refused node was read from, or want of memory
 abbrev pub IsCommandError : List ℕ → List ℕ → CommandError → Type 0
 IsCommandError text schema OutOfMemory = Unit {0}
 IsCommandError text schema (UnreadExpression at expected) = IsUnreadQuery text schema (UnreadExpression at expected)
 IsCommandError text schema (UnreadSchema at expected) = IsReadUpTo text schema at expected
 IsCommandError text schema (Unfit literal) = IsRefusedOverSchema text schema (Unfit literal)
-IsCommandError text schema (Refused span refusal remedy) = (e : Tree) × (s : LogicalType) × ReadsAs text s e × ReadsType schema s × (typed e s ≡ Err refusal)
+IsCommandError text schema (Refused span refusal remedy) = ReadsWhere text schema (λ placed s. IsRefusal (tree_in placed) s (Refused span refusal remedy) × IsRefusalAt placed s (Refused span refusal remedy))

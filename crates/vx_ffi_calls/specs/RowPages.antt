@@ -3,9 +3,10 @@ use Rattle.std.specs.Prelude.{◌≡◌, ℕ, List}
 use Rattle.std.specs.List.{flat_map}
 use Rattle.vx_value.specs.Columns.{Batch}
 use Rattle.vx_value.specs.Types.{Datum}
+use Rattle.vx_tree.specs.Views.{tree_of}
 use Rattle.vx_data.specs.Lines.{json_lines}
 use Rattle.vx_records.specs.Records.{Record, meanings}
-use Rattle.vx_ffi_calls.specs.RowStops.{ReadAs}
+use Rattle.vx_command_pages.specs.Inputs.{ReadsWhere}
 
 -- the rows of columns, one column behind the other
 abbrev pub rows_in : List Batch → List Datum
@@ -17,4 +18,4 @@ lines_of columns = flat_map (λ (c : Batch). json_lines c.type c.rows) columns
 
 -- the page has a line for each value that the expression means at some records
 abbrev pub IsRowsPage : List ℕ → List ℕ → List ℕ → Type 0
-IsRowsPage expression schema page = ReadAs expression schema (λ e s. (rs : List Record) × (columns : List Batch) × (rows_in columns ≡ meanings e s rs) × (page ≡ lines_of columns))
+IsRowsPage expression schema page = ReadsWhere expression schema (λ placed s. (rs : List Record) × (columns : List Batch) × (rows_in columns ≡ meanings (tree_of placed.expression) s rs) × (page ≡ lines_of columns))

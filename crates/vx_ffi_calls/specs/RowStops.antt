@@ -1,9 +1,9 @@
 -- What stops a call that goes over records.
 use Rattle.std.specs.Prelude.{◌≡◌, ◌⊎◌, ℕ, List, length, Ok}
 use Rattle.vx_command_pages.specs.declared.report.Span.{Span}
-use Rattle.vx_value.specs.Types.{LogicalType}
 use Rattle.vx_value.specs.Views.{type_of}
-use Rattle.vx_tree.specs.Trees.{Tree, BoundTree, typed}
+use Rattle.vx_tree.specs.Trees.{BoundTree, typed}
+use Rattle.vx_tree.specs.Views.{tree_of}
 use Rattle.vx_data.specs.declared.error.DataError.TheVariants.{OutOfMemory as NoRoomToRead, Read as Unreadable, Unexpected}
 use Rattle.vx_data.specs.declared.error.WriteError.TheVariants.{OutOfMemory as NoRoomToWrite, Write as WriterFailed, Unwritable}
 use Rattle.vx_records.specs.declared.error.RecordsError.{RecordsError}
@@ -11,7 +11,8 @@ use Rattle.vx_records.specs.declared.error.RecordsError.TheVariants.{OutOfMemory
 use Rattle.vx_records.specs.Outcomes.{IsFaultOn}
 use Rattle.vx_records.specs.Records.{Record}
 use Rattle.vx_command_pages.specs.declared.error.CommandError.TheVariants.{OutOfMemory as Exhausted}
-use Rattle.vx_command_pages.specs.Inputs.{ReadsAs, ReadsType, IsCommandError}
+use Rattle.vx_command_pages.specs.Inputs.{ReadsWhere, IsCommandError}
+use Rattle.vx_command_pages.specs.Spans.{span_at}
 use Rattle.vx_commands.specs.declared.error.RowsError.{RowsError}
 use Rattle.vx_commands.specs.declared.error.RowsError.TheVariants.{Query, NotBool, Records as OfRecords}
 pub use Rattle.vx_commands.specs.Rows.{IsBoundTo}
@@ -46,27 +47,23 @@ TellsRows (Query c) expression schema stop = Tells c expression schema stop
 TellsRows (NotBool t) expression schema stop = (stop.status ≡ Refused) × IsPlaceIn Expression expression 0 (length expression) stop.place
 TellsRows (OfRecords error span) expression schema stop = (stop.status ≡ error_status error) × IsErrorPlace error span expression stop.place
 
--- what the texts are read as is of such a kind
-abbrev pub ReadAs : List ℕ → List ℕ → (Tree → LogicalType → Type 0) → Type 0
-ReadAs expression schema P = (e : Tree) × (s : LogicalType) × ReadsAs expression s e × ReadsType schema s × P e s
-
--- the expression, bound to the schema's type, faults so on some records
-abbrev pub FaultsOn : List ℕ → List ℕ → RecordsError → Type 0
-FaultsOn expression schema (Fault f) = ReadAs expression schema (λ e s. (b : BoundTree) × (rs : List Record) × IsBoundTo e s b × IsFaultOn b rs f)
-FaultsOn expression schema NoRoom = Unit {0}
-FaultsOn expression schema (Data e) = Unit {0}
-FaultsOn expression schema (Write e) = Unit {0}
+-- the expression, bound to the schema's type, faults so on some records, and the bytes are those of the node that faults
+abbrev pub FaultsOn : List ℕ → List ℕ → RecordsError → Span → Type 0
+FaultsOn expression schema (Fault f) span = ReadsWhere expression schema (λ placed s. (b : BoundTree) × (rs : List Record) × IsBoundTo (tree_of placed.expression) s b × IsFaultOn b rs f × (span ≡ span_at f.path.items placed.places))
+FaultsOn expression schema NoRoom span = Unit {0}
+FaultsOn expression schema (Data e) span = Unit {0}
+FaultsOn expression schema (Write e) span = Unit {0}
 
 -- the error is one of the texts, or the first fault on some records, or tells what else stopped going over them
 abbrev pub IsRowsError : List ℕ → List ℕ → RowsError → Type 0
 IsRowsError expression schema (Query c) = IsCommandError expression schema c
 IsRowsError expression schema (NotBool t) = ⊥
-IsRowsError expression schema (OfRecords error span) = FaultsOn expression schema error
+IsRowsError expression schema (OfRecords error span) = FaultsOn expression schema error span
 
 -- the same where truth values are asked for, and the expression isn't evaluated
 abbrev pub IsVerdictError : List ℕ → List ℕ → RowsError → Type 0
 IsVerdictError expression schema (Query c) = IsCommandError expression schema c
-IsVerdictError expression schema (NotBool t) = ReadAs expression schema (λ e s. typed e s ≡ Ok (type_of t))
+IsVerdictError expression schema (NotBool t) = ReadsWhere expression schema (λ placed s. typed (tree_of placed.expression) s ≡ Ok (type_of t))
 IsVerdictError expression schema (OfRecords error span) = Unit {0}
 
 -- the error is none of the expression, or of want of memory
