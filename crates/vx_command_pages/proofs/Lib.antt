@@ -3,3 +3,4 @@ mod SpansBelow
 mod Unbinding
 mod Partitions
 mod Statements
+pub mod Told

@@ -3,6 +3,7 @@ ghost use Rattle.std.specs.Prelude.{IfErr};
 ghost use Rattle.vx_value.specs.Views.{type_of};
 ghost use Rattle.vx_tree.specs.Views.{tree_of};
 ghost use Rattle.vx_command_pages.specs.Inputs.{IsCommandError, IsRefusal};
+ghost use Rattle.vx_command_pages.specs.Spans.{IsRefusalAt};
 
 use crate::error::CommandError;
 use crate::input::{bind, read_query};
@@ -19,6 +20,7 @@ use vx_tree::{BoundExpression, DType, Expression, FieldName};
 /// What becomes of the expression over rows of the schema's type: its source text, type and tree; what
 /// each pass makes of it, where that changes it; and of its plan the tree, the paths that are read,
 /// the root and the partitions. Fails as [`plan_page`](crate::planned::plan_page) does.
+#[tactic(auto, using(crate::proofs::Told::told))]
 pub fn explanation_page(
     alloc: Global,
     expression: &str,
@@ -32,7 +34,8 @@ pub fn explanation_page(
 
 /// The same of an expression and a type that were read.
 pub fn explanation_of(alloc: Global, placed: &Placed, scope: &DType) -> Result<String, CommandError>
-    ensures { IfErr result (λ c. IsRefusal (tree_of placed.now.expression) (type_of scope.now) c) }
+    ensures error { IfErr result (λ c. IsRefusal (tree_of placed.now.expression) (type_of scope.now) c) }
+    ensures place { IfErr result (λ c. IsRefusalAt placed.now (type_of scope.now) c) }
 {
     let plan = plan_of(alloc, placed, scope)?;
     explanation(alloc, placed, scope, &plan)
@@ -45,7 +48,8 @@ pub(crate) fn explanation(
     scope: &DType,
     plan: &ScanPlan,
 ) -> Result<String, CommandError>
-    ensures { IfErr result (λ c. IsRefusal (tree_of placed.now.expression) (type_of scope.now) c) }
+    ensures error { IfErr result (λ c. IsRefusal (tree_of placed.now.expression) (type_of scope.now) c) }
+    ensures place { IfErr result (λ c. IsRefusalAt placed.now (type_of scope.now) c) }
 {
     let bound = bind(alloc, placed, scope)?;
     let mut page = tree_lines(alloc, &placed.expression, &bound)?;

@@ -94,6 +94,7 @@ struct Written {
 }
 
 // The query that the texts say, its plan by the folding rules, and the plan's statement.
+#[tactic(auto, using(crate::proofs::Told::told))]
 fn plan_written(alloc: Global, query: &SqlQuery<'_>) -> Result<Written, SqlError>
     ensures read { IfOk result (λ w. ReadsAs query.now.expression.now (type_of w.read.scope.value) (tree_of w.read.placed.value.expression)) }
     ensures scope { IfOk result (λ w. ReadsType query.now.schema.now (type_of w.read.scope.value)) }
@@ -134,6 +135,7 @@ fn lines_of(alloc: Global, sql: &SqlPlan) -> Result<String, AllocError>
 /// What becomes of the expression, as [`explanation_page`](crate::explanation::explanation_page) tells it, and behind it
 /// the statement of its plan, and of each conjunct whether the engine takes it, or why it is left.
 /// Fails as [`sql_page`] does.
+#[tactic(auto, using(crate::proofs::Told::told))]
 pub fn sql_explanation_page(alloc: Global, query: &SqlQuery<'_>) -> Result<String, SqlError>
     ensures { IfErr result (λ c. IsSqlError query.now.expression.now query.now.schema.now query.now.dialect query.now.table.now c) }
 {

@@ -56,6 +56,13 @@ impl DataFormat<'_> {
     }
 }
 
+impl DataFormat<'_> {
+    /// Whether a word can be said to stand for null in files of that form, and none was.
+    pub(crate) fn may_say_null(self) -> bool {
+        matches!(self, DataFormat::Csv(CsvFormat { null: None, .. }))
+    }
+}
+
 /// How JSON is read whose type is guessed.
 pub(crate) const GUESSED_JSON: JsonFormat = JsonFormat {
     any_layout: true,

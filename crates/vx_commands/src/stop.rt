@@ -145,7 +145,10 @@ impl Display for StopMessage<'_> {
             Stop::Numbers { of, error, texts } => {
                 self.write_error(error, self.text(*of), f)?;
                 write!(f, "\n  = help: {texts}")?;
-                self.write_floats(f)
+                if texts.has_no_word() {
+                    self.write_floats(f)?;
+                }
+                Ok(())
             }
             Stop::Column(error) => self.write_column(error, f),
         }

@@ -55,6 +55,7 @@ fn evaluated(alloc: Global, query: &GivenQuery<'_>, records: &[u8]) -> Result<Ve
 }
 
 // What the expression means at the records, as lines.
+#[tactic(auto, using(crate::proofs::Refusals::rows_error))]
 fn rows_of(
     alloc: Global,
     expression: &str,

@@ -56,6 +56,7 @@ fn judged(alloc: Global, query: &GivenQuery<'_>, statistics: &[u8]) -> Result<Ve
 }
 
 // What the statistics tell of the expression, as lines.
+#[tactic(auto, using(crate::proofs::Refusals::verdict_error))]
 fn verdict_page(
     alloc: Global,
     expression: &str,
