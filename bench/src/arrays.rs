@@ -60,6 +60,19 @@ const QUERIES: &[Query] = &[
     Query::new("item of a pack", 3, batch::numbers::<3>, None),
     Query::new("pack", 14, batch::numbers::<3>, None),
     Query::new("LIKE", 2, batch::texts, None),
+    Query::new("in 4", 15, batch::numbers::<1>, Some(typed::members::<4>)),
+    Query::new(
+        "in 100",
+        16,
+        batch::numbers::<1>,
+        Some(typed::members::<100>),
+    ),
+    Query::new(
+        "in 1,000",
+        17,
+        batch::numbers::<1>,
+        Some(typed::members::<1_000>),
+    ),
 ];
 
 /// Prints the table of the queries over so many rows.

@@ -1,4 +1,6 @@
 //! The queries as they would be written by hand, each in one pass over the rows.
+use std::collections::HashSet;
+use std::hash::Hash;
 
 /// The same values as the library's.
 #[derive(Clone)]
@@ -87,6 +89,20 @@ pub fn fill_null(rows: &[Value]) -> Vec<Value> {
         Value::Null => Value::Int(5),
         x => x.clone(),
     })
+}
+
+/// `$.x in (..)`, of so many numbers.
+pub fn members<const COUNT: usize>(rows: &[Value]) -> Vec<Value> {
+    let members = listed::<i128>(COUNT);
+    each(rows, |row| match field(row, 0) {
+        Value::Int(x) => Value::Bool(members.contains(x)),
+        _ => Value::Null,
+    })
+}
+
+/// So many numbers of the list: 997 apart, from -100,000 on.
+pub fn listed<N: Eq + Hash + From<i32>>(count: usize) -> HashSet<N> {
+    (-100_000..).step_by(997).take(count).map(N::from).collect()
 }
 
 /// `($.x + $.y)`.

@@ -106,6 +106,24 @@ pub const QUERIES: &[Query] = &[
         batch: batch::numbers::<3>,
         by_hand: by_hand::pack,
     },
+    Query {
+        name: "in 4",
+        number: 15,
+        batch: batch::numbers::<1>,
+        by_hand: by_hand::members::<4>,
+    },
+    Query {
+        name: "in 100",
+        number: 16,
+        batch: batch::numbers::<1>,
+        by_hand: by_hand::members::<100>,
+    },
+    Query {
+        name: "in 1,000",
+        number: 17,
+        batch: batch::numbers::<1>,
+        by_hand: by_hand::members::<1_000>,
+    },
 ];
 
 /// The milliseconds of an evaluation.

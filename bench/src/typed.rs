@@ -1,7 +1,7 @@
 //! The queries as they would be written by hand over typed slices, with a bit a row for validity and
 //! for truth values.
 use crate::batch::Digest;
-use crate::by_hand::Value;
+use crate::by_hand::{Value, listed};
 use std::borrow::Cow;
 
 /// Bits of rows, in words of 64.
@@ -131,6 +131,15 @@ pub fn fill_null(fields: &[Numbers]) -> Rows<'_> {
     let x = &fields[0];
     let filled = (0..x.values.len()).map(|i| if is_set(&x.valid, i) { x.values[i] } else { 5 });
     Rows::Numbers(filled.collect(), None)
+}
+
+/// `$.x in (..)`, of so many numbers.
+pub fn members<const COUNT: usize>(fields: &[Numbers]) -> Rows<'_> {
+    let x = &fields[0];
+    let members = listed::<i32>(COUNT);
+    truths(x.values.len(), Some(Cow::Borrowed(&x.valid)), |i| {
+        members.contains(&x.values[i])
+    })
 }
 
 /// `($.x + $.y)`.

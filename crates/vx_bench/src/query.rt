@@ -36,6 +36,8 @@ pub enum Query {
     FourRanges,
     /// `pack(a: $.x, b: $.y, c: $.z)`.
     Pack,
+    /// `$.x in (..)`, of so many numbers.
+    Members(u16),
 }
 
 impl Query {
@@ -57,6 +59,9 @@ impl Query {
             12 => Some(Query::IsNull),
             13 => Some(Query::FourRanges),
             14 => Some(Query::Pack),
+            15 => Some(Query::Members(4)),
+            16 => Some(Query::Members(100)),
+            17 => Some(Query::Members(1_000)),
             _ => None,
         }
     }
@@ -64,9 +69,8 @@ impl Query {
     /// The rows that the query is evaluated over.
     pub fn batch(self, alloc: Global, rows: usize) -> VortexResult<Column> {
         match self {
-            Query::Range | Query::Case | Query::FillNull | Query::IsNull => {
-                named(alloc, &["x"], rows)
-            }
+            Query::Range | Query::Case | Query::FillNull | Query::IsNull | Query::Members(_) =>
+                named(alloc, &["x"], rows),
             Query::Sum => named(alloc, &["x", "y"], rows),
             Query::Item | Query::Zip | Query::Pack => named(alloc, &["x", "y", "z"], rows),
             Query::FourRanges => numbered(alloc, 4, rows),

@@ -3,8 +3,10 @@ use crate::fields::{names, numbered};
 use crate::query::Query;
 use crate::trees::Trees;
 use std::alloc::Global;
-use vx_dtype::{FieldName, VortexResult};
+use std::sync::Arc;
+use vx_dtype::{DType, FieldName, Nullability, PType, VortexResult};
 use vx_tree::{EmptyOptions, Expression, LikeOptions, Operator, Scalar, ScalarFnRef};
+use vx_value::Value;
 
 impl Query {
     /// The query as a tree.
@@ -30,6 +32,7 @@ impl Query {
             Query::IsNull => is_null(alloc, trees),
             Query::FourRanges => four_ranges(alloc, trees),
             Query::Pack => pack(alloc, trees),
+            Query::Members(count) => members(alloc, trees, count),
         }
     }
 }
@@ -135,4 +138,17 @@ fn pack(alloc: Global, trees: &mut Trees) -> VortexResult<()> {
     trees.named(alloc, "y")?;
     trees.named(alloc, "z")?;
     trees.pack(alloc, names(alloc, &["a", "b", "c"])?)
+}
+
+// The numbers are 997 apart, from -100,000 on.
+fn members(alloc: Global, trees: &mut Trees, count: u16) -> VortexResult<()> {
+    let mut numbers = Vec::new(alloc);
+    for i in 0..count {
+        numbers.push(Value::Int(997 * i128::from(i) - 100_000))?;
+    }
+    let number = DType::Primitive(PType::I32, Nullability::NonNullable);
+    let list = DType::List(Arc::new(alloc, number)?, Nullability::NonNullable);
+    trees.literal(alloc, Scalar::try_new(list, Value::List(numbers))?)?;
+    trees.x(alloc)?;
+    trees.call(alloc, ScalarFnRef::ListContains(EmptyOptions))
 }
