@@ -125,7 +125,7 @@ impl Readings {
         }
         let wanted = Found::of(alloc, tree, table.batches)?;
         let found = Found::of(alloc, &read, table.batches)?;
-        if !found.has(&wanted) {
+        if !found.has(&wanted, table.dialect) {
             self.failures = self.failures.wrapping_add(1);
             let line = format_args!("has other rows: {sql:?}\n");
             return Ok(push_shown(alloc, &line, &mut self.lines)?);

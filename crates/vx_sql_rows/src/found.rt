@@ -7,6 +7,7 @@ use std::alloc::Global;
 use vx_dtype::{DType, VortexError};
 use vx_eval::apply_bound;
 use vx_places::first_fault_at;
+use vx_sql::Dialect;
 use vx_test_support::Unread;
 use vx_tree::BoundExpression;
 use vx_value::{Column, Value};
@@ -40,6 +41,15 @@ pub struct Found {
     pub shown: Vec<usize>,
 }
 
+// Whether the values are the same to the engine: to SQLite and ClickHouse truth values are 1 and 0.
+fn is_same(dialect: Dialect, value: &Value, wanted: &Value) -> bool {
+    match (dialect, value, wanted) {
+        (Dialect::Sqlite | Dialect::ClickHouse, Value::Int(number), Value::Bool(truth)) => *number
+            == i128::from(*truth),
+        _ => value == wanted,
+    }
+}
+
 // How many rows of one expression have to fail, at most.
 const FAILURES: usize = 2;
 
@@ -63,13 +73,12 @@ impl Found {
         Ok(found)
     }
 
-    /// Whether each row where the other doesn't fault has the same value here.
-    pub fn has(&self, other: &Found) -> bool {
+    /// Whether each row where the other doesn't fault has a value here that is the same to the engine.
+    pub fn has(&self, other: &Found, dialect: Dialect) -> bool {
         let mut here = self.values.iter();
-        other
-            .values
-            .iter()
-            .all(|wanted| here.any(|value| value == wanted))
+        other.values.iter().all(|(row, wanted)| {
+            here.any(|(at, value)| at == row && is_same(dialect, value, wanted))
+        })
     }
 
     /// Whether no row of so many faults.
