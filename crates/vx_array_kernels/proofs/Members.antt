@@ -104,30 +104,6 @@ told_of_width number others lent part first ws count told tells same cut are =
     ∙ map_same (λ x. has_number number lent (number x)) (λ x. has_element ws (int (number x))) (take count part) (λ x. ap (λ l. has_number number l (number x)) same ∙ tells (number x))
     ∙ sym (map_map (λ n. has_element ws (int n)) number (take count part)) ∙ ap (map (λ n. has_element ws (int n))) (sym (take-map number count part))
 
-turned : (i j : ℤ) → int_eq i j ≡ int_eq j i
-turned i j = same_from_decides (int_eq i j) (int_eq j i) (Decides-int_eq i j) (Decides-like (int_eq j i) sym sym (Decides-int_eq j i))
-
-pub each_more : {A : Type 0} (number : A → ℤ) (others numbers : List A) (i : ℕ) (y : A) (told same : List Bool) → i < length others → y ≡ get_or others i y → told ≡ map (λ x. has_number number (take i others) (number x)) numbers →
-    same ≡ map (λ x. holds Equal (int_cmp (number x) (number y))) numbers → zip2 (λ a b. a || b) told same ≡ map (λ x. has_number number (take (i + 1) others) (number x)) numbers
-each_more {A = A} number others numbers i y told same lt at are is =
-    let f = λ (x : A). has_number number (take i others) (number x) in
-    let g = λ (x : A). holds Equal (int_cmp (number x) (number y)) in
-    ap (λ l. zip2 (λ a b. a || b) l same) are ∙ ap (zip2 (λ a b. a || b) (map f numbers)) is ∙ either_mapped f g numbers
-    ∙ map_same (λ x. f x || g x) (λ x. has_number number (take (i + 1) others) (number x)) numbers
-    (λ x. ap (λ b. f x || b) (turned (number x) (number y)) ∙ ap (λ z. f x || int_eq (number z) (number x)) at ∙ sym (list_any_more (λ z. int_eq (number z) (number x)) others i y lt))
-
--- at first none is found
-pub none_found : {A : Type 0} (xs : List A) → replicate (length xs) false ≡ map (λ (x : A). false) xs
-none_found [] = refl
-none_found (x ∷ xs) = ap (λ l. false ∷ l) (none_found xs)
-
--- the first numbers of a width
-pub told_of_width : {A : Type 0} (number : A → ℤ) (others part first : List A) (ws : Data) (count : ℕ) (told : List Bool) → ((n : ℤ) → has_number number others n ≡ has_element ws (int n)) → first ≡ take count part → told ≡ map (λ x. has_number number others (number x)) first →
-    told ≡ map (λ n. has_element ws (int n)) (take count (map number part))
-told_of_width number others part first ws count told tells same are =
-    are ∙ ap (map (λ x. has_number number others (number x))) same ∙ map_same (λ x. has_number number others (number x)) (λ x. has_element ws (int (number x))) (take count part) (λ x. tells (number x))
-    ∙ sym (map_map (λ n. has_element ws (int n)) number (take count part)) ∙ ap (map (λ n. has_element ws (int n))) (sym (take-map number count part))
-
 -- ---- numbers by their codes
 
 code_tells : (i j above : ℤ) (m c : ℕ) → pos m ≡ i +ℤ above → pos c ≡ j +ℤ above → (m == c) ≡ int_eq i j
