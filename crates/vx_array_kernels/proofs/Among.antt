@@ -1,8 +1,11 @@
 -- Which rows of lanes are among the elements of one list.
-use Rattle.std.proofs.Common.{◌≡◌, ℕ, ℤ, pos, List, [], map, length, take, refl, sym, ap, subst, ◌∙◌, Bool, true, false}
+use Rattle.std.proofs.Common.{◌≡◌, ℕ, ℤ, pos, List, [], map, length, take, refl, sym, ap, subst, ◌∙◌, Bool, true, false, rules, Vec}
 use Rattle.std.specs.Prelude.{if◌then◌else◌}
 use Rattle.std.specs.Str.{is_utf8}
-use Rattle.vx_value.specs.Types.{Data, Datum, null, int, utf8, is_null_datum}
+use Rattle.std.specs.declared.alloc.Global.{Global}
+use Rattle.vx_value.specs.declared.value.Value.{Value, List as ListOf, the_lemmas}
+use Rattle.vx_value.specs.Types.{Data, Datum, null, int, list_of, utf8, is_null_datum}
+use Rattle.vx_value.specs.Views.{data_view, value_of}
 use Rattle.vx_fn.specs.Values.{has_element}
 use Rattle.vx_array.specs.declared.validity.Validity.{Validity}
 use Rattle.vx_array.specs.Kinds.{text_row}
@@ -11,6 +14,10 @@ use Rattle.vx_array_kernels.specs.Members.{TellsMembers}
 use Rattle.vx_array_kernels.specs.Truths.{TellsNulls}
 use Rattle.vx_array_kernels.proofs.Members.{members_told}
 use Rattle.vx_array_kernels.proofs.NullRows.{tells_nulls}
+
+-- a list as a value
+pub value_of-List : (v : Vec Value Global) → value_of (ListOf v) ≡ list_of (data_view v.items)
+value_of-List v = search (rules, the_lemmas)
 
 -- as many rows are valid or not as bits tell of
 pub told_there : (ws : Data) (v : Validity) (told : List Bool) (rows : List Datum) → TellsNulls v rows → TellsMembers ws told rows → HasRows v (length told)

@@ -2,9 +2,12 @@
 use Rattle.std.proofs.Common.{◌≡◌, ℕ, ◌+◌, ◌<◌, ◌≤◌, ◌==◌, ℤ, pos, List, [], ◌∷◌, ◌++◌, map, length, get_or, take, drop, drop-cons, drop_of_length-le, add-one, suc, length-take, refl, sym, ap, subst, ◌∙◌, arith, Bool, true, false, not, ◌&&◌, ◌||◌, cond, Option, Some, None, Result, Ok, Err}
 use Rattle.std.specs.Prelude.{if◌then◌else◌, ◌+ℤ◌, IfOk, IfSome}
 use Rattle.std.specs.Bool.{Decides}
+use Rattle.std.specs.Borrow.{Bor}
+use Rattle.std.specs.HashSet.{HashSet, contains}
 use Rattle.std.specs.List.{list_any}
 use Rattle.std.specs.Ordering.{int_cmp, int_eq}
 use Rattle.std.specs.Simd.Lanes.{zip2}
+use Rattle.std.specs.Str.{bytes_eq}
 use Rattle.std.proofs.lemmas.Bool.Decides.{Decides-eqb, Decides-int_eq, Decides-like, same_from_decides}
 use Rattle.std.proofs.lemmas.Int.{ints}
 use Rattle.std.proofs.Math.ListN.{replicate}
@@ -24,7 +27,7 @@ use Rattle.vx_array.specs.Shown.{is_valid, masked, shown, shown_count, HasRows}
 use Rattle.vx_array.proofs.Mapped.{map_map, map_same}
 use Rattle.vx_array.proofs.Masked.{get_or-shown, length-masked, length-shown, rows_within}
 use Rattle.vx_array_kernels.specs.Buckets.{is_one_of, is_there}
-use Rattle.vx_array_kernels.specs.Members.{HasCodes, has_number, TellsMembers}
+use Rattle.vx_array_kernels.specs.Members.{HasCodes, has_number, same_bytes, TellsMembers}
 use Rattle.vx_array_kernels.specs.declared.buckets.Buckets.{Buckets}
 use Rattle.vx_array_kernels.specs.Truths.{TellsNulls}
 use Rattle.vx_array_kernels.proofs.Beside.{all_counted}
@@ -138,6 +141,14 @@ found_each (Ok None) P Q h p = tt
 found_each (Err e) P Q h p = tt
 
 -- ---- texts
+
+-- an element that is a text
+pub text_more : {S : Type 0} (old new : HashSet (Bor (List ℕ)) S) (key : Bor (List ℕ)) (t : List ℕ) (items : List Value) (i : ℕ) (x : Value) → i < length items → x ≡ get_or items i x → value_of x ≡ utf8 t → key.now ≡ t →
+    ((q : Bor (List ℕ)) → contains same_bytes new q ≡ cond (same_bytes key q) true (contains same_bytes old q)) → ((q : Bor (List ℕ)) → (contains same_bytes old q || has_element (data_view (drop i items)) (utf8 q.now)) ≡ has_element (data_view items) (utf8 q.now)) →
+    (q : Bor (List ℕ)) → (contains same_bytes new q || has_element (data_view (drop (i + 1) items)) (utf8 q.now)) ≡ has_element (data_view items) (utf8 q.now)
+text_more old new key t items i x lt at is same put had q =
+    element_more (contains same_bytes old q) (contains same_bytes new q) (has_element (data_view items) (utf8 q.now)) items i x (utf8 q.now) lt at
+    (put q ∙ put_in (same_bytes key q) (contains same_bytes old q) ∙ ap (λ b. contains same_bytes old q || b) (ap (λ bs. bytes_eq bs q.now) same ∙ ap (λ d. equal_datum d (utf8 q.now)) (sym is))) (had q)
 
 -- what is made of the first of some rows
 pub first_long : {A : Type 0} (h : A → Bool) (xs : List A) (n : ℕ) → n ≤ length xs → length (map h (take n xs)) ≡ n
