@@ -1,9 +1,10 @@
 // Which numbers in a buffer are among the elements of one list.
-ghost use Rattle.std.specs.Prelude.{◌≡◌, ◌<◌, ◌≤◌, ◌+ℤ◌, ℤ, List, pos, IfOk, IfSome, false, get_or, length, map, take};
+ghost use Rattle.std.specs.Prelude.{◌≡◌, ◌<◌, ◌≤◌, ◌+ℤ◌, ℕ, ℤ, pos, IfOk, IfSome, get_or, length, map, take};
 ghost use Rattle.vx_value.specs.Types.{int};
 ghost use Rattle.vx_value.specs.Views.{data_view};
 ghost use Rattle.vx_fn.specs.Values.{has_element};
 ghost use Rattle.vx_array.specs.Kinds.{numbers_in};
+ghost use Rattle.vx_array_kernels.specs.Buckets.{is_there};
 ghost use Rattle.vx_array_kernels.specs.Members.{HasCodes, has_number};
 
 use crate::buckets::Buckets;
@@ -115,11 +116,11 @@ fn code_at<T: Width>(numbers: &[T], k: usize) -> u64
     numbers[k].code()
 }
 
-// Whether the number at that place is one of those whose codes are in the buckets.
+// Whether the buckets have the code of the number at that place.
 #[inline(always)]
 fn is_in<T: Width>(buckets: &Buckets, numbers: &[T], k: usize) -> bool
     requires { k < length numbers.now }
-    ensures { (xs : List T) → HasCodes T.number T.above buckets.now xs → result ≡ get_or (map (λ x. has_number T.number xs (T.number x)) numbers.now) k false }
+    ensures { (code : ℕ) × (pos code ≡ get_or (map (λ x. T.number x +ℤ T.above) numbers.now) k (pos 0)) × (result ≡ is_there buckets.now code) }
 {
     buckets.has(code_at(numbers, k))
 }

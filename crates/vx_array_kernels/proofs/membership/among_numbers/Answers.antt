@@ -18,13 +18,13 @@ told_lanes-requires c =
     let ws = data_view c.args.items.now in
     let ns = numbers_in c.args.numbers.now in
     let v = c.args.validity.now in
-    let are = rw c.in-Some.is at c.in_ok-numbers_told.ensures in
-    told_there ws c.in_ok-validity.validity c.in-Some.told (shown v (map int ns)) (numbers_null v c.in_ok-validity.validity ns c.in_ok-validity.ensures) (numbers_members ws v ns c.args.count c.in-Some.told c.requires are)
+    let are = rw c.in-Some.is at c.in_ok-told.ensures in
+    told_there ws c.in_ok-validity.validity c.in-Some.told (shown v (map int ns)) (numbers_null v c.in_ok-validity.validity ns c.in_ok-validity.ensures.cases) (numbers_members ws v ns c.args.count c.in-Some.told c.requires are)
 
 pub returns : goal.returns
 returns c =
     let ws = data_view c.args.items.now in
     let ns = numbers_in c.args.numbers.now in
     let v = c.args.validity.now in
-    let are = rw c.in-Some.is at c.in_ok-numbers_told.ensures in
-    c.in_ok-told_lanes.ensures (shown v (map int ns)) (numbers_null v c.in_ok-validity.validity ns c.in_ok-validity.ensures) (numbers_members ws v ns c.args.count c.in-Some.told c.requires are)
+    let are = rw c.in-Some.is at c.in_ok-told.ensures in
+    c.in_ok-told_lanes.ensures (shown v (map int ns)) (numbers_null v c.in_ok-validity.validity ns c.in_ok-validity.ensures.cases) (numbers_members ws v ns c.args.count c.in-Some.told c.requires are)

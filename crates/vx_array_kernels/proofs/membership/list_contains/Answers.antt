@@ -11,8 +11,8 @@ use Rattle.vx_array_kernels.proofs.Among.{value_of-List}
 use Rattle.vx_array_kernels.proofs.Told.{both_before}
 use Rattle.vx_array_kernels.proofs.membership.list_contains.Goals as goal
 
-pub returns-in-Same-in-List : goal.returns-in-Same-in-List
-returns-in-Same-in-List c =
+pub returns-in-List : goal.returns-in-List
+returns-in-List c =
     let m = c.in-Same in
     let xs = lanes_rows c.args.pair.lhs.now in
     let ys = lanes_rows c.args.pair.rhs.now in
