@@ -1,5 +1,5 @@
 -- Which rows of lanes are among the elements of one list.
-use Rattle.std.proofs.Common.{◌≡◌, ℕ, ℤ, pos, List, [], map, length, take, refl, sym, ap, subst, ◌∙◌, Bool, true, false, rules, Vec}
+use Rattle.std.proofs.Common.{◌≡◌, ℕ, ℤ, pos, List, [], map, length, take, refl, sym, subst, Bool, true, false, rules, Vec}
 use Rattle.std.specs.Prelude.{if◌then◌else◌}
 use Rattle.std.specs.Str.{is_utf8}
 use Rattle.std.specs.declared.alloc.Global.{Global}

@@ -1,10 +1,8 @@
 -- What is told of values that are looked up among the elements of one list.
-use Rattle.std.proofs.Common.{◌≡◌, ℕ, ◌+◌, ◌<◌, ◌≤◌, ◌==◌, ℤ, pos, List, [], ◌∷◌, ◌++◌, map, length, get_or, take, drop, drop-cons, drop_of_length-le, add-one, suc, length-take, refl, sym, ap, subst, ◌∙◌, arith, Bool, true, false, not, ◌&&◌, ◌||◌, cond, Option, Some, None, Result, Ok, Err}
+use Rattle.std.proofs.Common.{◌≡◌, ℕ, ◌+◌, ◌<◌, ◌≤◌, ◌==◌, ℤ, pos, List, [], ◌∷◌, ◌++◌, map, length, get_or, take, drop, drop-cons, drop_of_length-le, add-one, suc, length-take, refl, sym, ap, ◌∙◌, arith, Bool, true, false, not, ◌&&◌, ◌||◌, cond, Option, Some, None, Result, Ok, Err}
 use Rattle.std.specs.Prelude.{if◌then◌else◌, ◌+ℤ◌, IfOk, IfSome}
-use Rattle.std.specs.Bool.{Decides}
 use Rattle.std.specs.Borrow.{Bor}
 use Rattle.std.specs.HashSet.{HashSet, contains}
-use Rattle.std.specs.List.{list_any}
 use Rattle.std.specs.Ordering.{int_cmp, int_eq}
 use Rattle.std.specs.Simd.Lanes.{zip2}
 use Rattle.std.specs.Str.{bytes_eq}
@@ -18,12 +16,12 @@ use Rattle.vx_value.specs.declared.value.Value.{Value}
 use Rattle.vx_value.specs.Equality.{equal_datum}
 use Rattle.vx_value.specs.Types.{Data, Datum, null, bool, int, utf8, list_of, is_null_datum}
 use Rattle.vx_value.specs.Views.{data_view, value_of}
-use Rattle.vx_fn.specs.Values.{among, contained, has_element, has_null}
+use Rattle.vx_fn.specs.Values.{contained, has_element, has_null}
 use Rattle.vx_array_loops.specs.Comparisons.{holds}
 use Rattle.vx_array_loops.specs.declared.comparison.Comparison.TheVariants.{Equal}
 use Rattle.vx_array.specs.declared.validity.Validity.{Validity}
 use Rattle.vx_array.specs.declared.validity.Validity.TheVariants.{Rows}
-use Rattle.vx_array.specs.Shown.{is_valid, masked, shown, shown_count, HasRows}
+use Rattle.vx_array.specs.Shown.{is_valid, masked, shown, shown_count}
 use Rattle.vx_array.proofs.Mapped.{map_map, map_same}
 use Rattle.vx_array.proofs.Masked.{get_or-shown, length-masked, length-shown, rows_within}
 use Rattle.vx_array_kernels.specs.Buckets.{is_one_of, is_there}

@@ -1,4 +1,4 @@
-use Rattle.std.proofs.Common.{◌≡◌, ◌∙◌, ◌+ℤ◌, ℕ, pos, ap, get_or, length, map, rules}
+use Rattle.std.proofs.Common.{◌≡◌, ◌∙◌, ◌+ℤ◌, ℕ, pos, ap, get_or, map, rules}
 use Rattle.std.proofs.lemmas.List.{get_or_default}
 use Rattle.vx_array_kernels.specs.Buckets.{is_one_of, is_there}
 use Rattle.vx_array_kernels.specs.Members.{HasCodes}

@@ -1,4 +1,4 @@
-use Rattle.std.proofs.Common.{◌≡◌, ◌∙◌, ◌+◌, ◌||◌, ap, drop}
+use Rattle.std.proofs.Common.{◌∙◌, ◌+◌, ◌||◌, ap, drop}
 use Rattle.std.specs.HashSet.{contains}
 use Rattle.vx_value.specs.Types.{utf8}
 use Rattle.vx_value.specs.Views.{data_view, value_of}

@@ -1,4 +1,4 @@
-use Rattle.std.proofs.Common.{◌≡◌, ◌∙◌, ap, length, map, subst, sym}
+use Rattle.std.proofs.Common.{◌∙◌, ap, length, map, subst, sym}
 use Rattle.vx_value.specs.Types.{list_of}
 use Rattle.vx_value.specs.Views.{data_view}
 use Rattle.vx_fn.specs.Values.{contained}

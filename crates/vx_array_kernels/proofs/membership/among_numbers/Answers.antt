@@ -1,11 +1,8 @@
-use Rattle.std.proofs.Common.{◌≡◌, ◌∙◌, ap, List, Bool, length, length-take, map, take, arith}
-use Rattle.std.proofs.lemmas.List.{length-map}
+use Rattle.std.proofs.Common.{map}
 use Rattle.vx_value.specs.Types.{int}
 use Rattle.vx_value.specs.Views.{data_view}
-use Rattle.vx_fn.specs.Values.{has_element}
 use Rattle.vx_array.specs.Kinds.{numbers_in}
 use Rattle.vx_array.specs.Shown.{shown}
-use Rattle.vx_array_kernels.specs.Members.{TellsMembers}
 use Rattle.vx_array_kernels.proofs.Among.{numbers_members, numbers_null, told_there}
 use Rattle.vx_array_kernels.proofs.Beside.{numbers_there}
 use Rattle.vx_array_kernels.proofs.membership.among_numbers.Goals as goal

@@ -1,4 +1,3 @@
-use Rattle.std.proofs.Common.{◌≡◌}
 use Rattle.vx_value.specs.Views.{data_view}
 use Rattle.vx_array.specs.Kinds.{spans_in}
 use Rattle.vx_array_kernels.specs.Likeness.{text_rows}
