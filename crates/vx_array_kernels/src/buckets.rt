@@ -128,8 +128,5 @@ fn place(shift: u32, number: u64) -> usize
 fn is_in(bucket: &[u64; 4], number: u64) -> bool
     ensures { result ≡ is_one_of bucket.now number }
 {
-    (bucket[0] == number)
-        | (bucket[1] == number)
-        | (bucket[2] == number)
-        | (bucket[3] == number)
+    (bucket[0] == number) | (bucket[1] == number) | (bucket[2] == number) | (bucket[3] == number)
 }

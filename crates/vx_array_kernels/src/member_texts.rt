@@ -26,10 +26,7 @@ pub fn texts_told(alloc: Global, items: &[Value], texts: Texts) -> Result<Option
 }
 
 // The bytes of the elements that aren't null, if these are texts.
-fn texts_of<'a>(
-    alloc: Global,
-    items: &'a [Value],
-) -> Result<Option<HashSet<&'a [u8]>>, AllocError>
+fn texts_of<'a>(alloc: Global, items: &'a [Value]) -> Result<Option<HashSet<&'a [u8]>>, AllocError>
     ensures { IfOk result (λ found. IfSome found (λ set. HasTexts set (data_view items.now))) }
 {
     let mut set = HashSet::with_capacity(alloc, items.len())?;

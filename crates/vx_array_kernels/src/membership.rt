@@ -84,11 +84,7 @@ fn among_numbers(
 }
 
 // The same of texts.
-fn among_texts(
-    alloc: Global,
-    items: &[Value],
-    texts: Texts,
-) -> Result<Option<Lanes>, AllocError>
+fn among_texts(alloc: Global, items: &[Value], texts: Texts) -> Result<Option<Lanes>, AllocError>
     requires long { length (text_rows texts) ≡ texts.count }
     requires there { texts.count ≤ length (spans_in texts.spans.now) }
     ensures { Finds (map (contained (list_of (data_view items.now))) (text_rows texts.entry)) result }
