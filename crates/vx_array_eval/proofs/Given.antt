@@ -13,8 +13,8 @@ use Rattle.vx_value.specs.Types.{Name, LogicalType, ty, Shape, atomic, number, f
 use Rattle.vx_value.specs.Views.{admits_null, type_of}
 use Rattle.vx_fn.specs.Faults.{differs, has_fault, is_bad_fill, some_differ}
 use Rattle.vx_floats.specs.declared.arithmetic.Arithmetic.{Arithmetic}
-use Rattle.vx_fn.specs.Functions.{Function, Operation, compares, and_also, or_else, computes, binary, between, case_when, fill_null, like, literal, logical_not, is_atomic, is_null, is_not_null, mask, pack, zip, starts_with, byte_length}
-use Rattle.vx_fn.specs.Values.{begun, bound_comparison, compared, counted_bytes, kleene_and, kleene_or, kleene_not, liked, computed}
+use Rattle.vx_fn.specs.Functions.{Function, Operation, compares, and_also, or_else, computes, binary, between, case_when, fill_null, like, literal, logical_not, is_atomic, is_null, is_not_null, mask, pack, zip, starts_with, byte_length, list_contains}
+use Rattle.vx_fn.specs.Values.{begun, bound_comparison, compared, contained, counted_bytes, kleene_and, kleene_or, kleene_not, liked, computed}
 use Rattle.vx_fn.specs.Views.{function_of}
 use Rattle.vx_array_loops.specs.declared.comparison.Comparison.{Comparison as Asked}
 use Rattle.vx_array.specs.declared.lanes.Lanes.{Lanes}
@@ -69,6 +69,10 @@ like_given negated ci ts n l r rows is = given (like negated ci) ts n (l ∷ r �
 -- whether texts begin with others
 pub begun_given : (ts : List LogicalType) (n : ℕ) (l r rows : List Datum) → rows ≡ both_rows n begun l r → node_answer starts_with ts (rows_of n (l ∷ r ∷ [])) ≡ Ok rows
 begun_given ts n l r rows is = given starts_with ts n (l ∷ r ∷ []) rows refl is
+
+-- whether values are among the elements of lists
+pub contained_given : (ts : List LogicalType) (n : ℕ) (l r rows : List Datum) → rows ≡ both_rows n contained l r → node_answer list_contains ts (rows_of n (l ∷ r ∷ [])) ≡ Ok rows
+contained_given ts n l r rows is = given list_contains ts n (l ∷ r ∷ []) rows refl is
 
 -- choices
 pub case_given : (pairs : ℕ) (has_else : Bool) (ts : List LogicalType) (n : ℕ) (cs : List (List Datum)) (rows : List Datum) → rows ≡ case_rows n cs → node_answer (case_when pairs has_else) ts (rows_of n cs) ≡ Ok rows

@@ -18,7 +18,8 @@ use std::alloc::{AllocError, Global};
 use vx_array::Lanes;
 use vx_array_kernels::{
     Connective, Pair, Range, between, byte_length, compare, comparison_of, computation_of, compute,
-    compute_floats, connect, fill_null, is_not_null, is_null, mask, not, starts_with, zip,
+    compute_floats, connect, fill_null, is_not_null, is_null, list_contains, mask, not,
+    starts_with, zip,
 };
 use vx_array_loops::{Comparison, Computation};
 use vx_dtype::DType;
@@ -52,6 +53,7 @@ pub fn of_two(alloc: Global, node: Node, pair: Pair) -> Result<Option<Lanes>, Al
         ScalarFnRef::FillNull(_) => filled_of(alloc, node, pair),
         ScalarFnRef::Mask(_) => mask(alloc, pair),
         ScalarFnRef::StartsWith(_) => starts_with(alloc, pair),
+        ScalarFnRef::ListContains(_) => list_contains(alloc, pair),
         _ => Ok(None),
     }
 }

@@ -16,3 +16,5 @@ mod AllValid
 mod Keyed
 mod FloatsComputed
 mod ByBytes
+pub mod Members
+pub mod Among

@@ -1,4 +1,5 @@
 pub mod Asked
+pub mod Buckets
 pub mod ByteRows
 pub mod Choices
 pub mod Connected
@@ -6,6 +7,7 @@ pub mod FloatResults
 pub mod Found
 pub mod Keys
 pub mod Likeness
+pub mod Members
 pub mod Ranges
 pub mod Reach
 pub mod Results

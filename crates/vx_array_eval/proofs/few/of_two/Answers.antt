@@ -1,11 +1,11 @@
 use Rattle.std.proofs.Common.{◌≡◌, ap, Ok, [], ◌∷◌}
-use Rattle.vx_fn.specs.Values.{begun}
+use Rattle.vx_fn.specs.Values.{begun, contained}
 use Rattle.vx_fn.specs.Views.{function_of}
 use Rattle.vx_array.specs.Rows.{lanes_rows}
 use Rattle.vx_array_kernels.specs.Choices.{masked_rows}
 use Rattle.vx_array_kernels.specs.Truths.{both_rows}
 use Rattle.vx_array.proofs.Found.{found_map}
-use Rattle.vx_array_eval.proofs.Given.{at_node, begun_given, mask_given}
+use Rattle.vx_array_eval.proofs.Given.{at_node, begun_given, contained_given, mask_given}
 use Rattle.vx_array_eval.specs.Nodes.{answer_of, types_of}
 use Rattle.vx_array_eval.proofs.few.of_two.Goals as goal
 
@@ -30,3 +30,11 @@ returns-in-StartsWith c =
     let n = c.args.pair.count in
     found_map c.starts_with.result (λ out. lanes_rows out ≡ both_rows n begun x y) (λ out. answer_of c.args.node ≡ Ok (lanes_rows out))
     (λ out is. at_node c.args.node _ (x ∷ y ∷ []) n (lanes_rows out) (ap function_of c.in-StartsWith.is) c.requires.two c.requires.count (begun_given (types_of c.args.node) n x y (lanes_rows out) is)) c.starts_with.ensures
+
+pub returns-in-ListContains : goal.returns-in-ListContains
+returns-in-ListContains c =
+    let x = lanes_rows c.args.pair.lhs.now in
+    let y = lanes_rows c.args.pair.rhs.now in
+    let n = c.args.pair.count in
+    found_map c.list_contains.result (λ out. lanes_rows out ≡ both_rows n contained x y) (λ out. answer_of c.args.node ≡ Ok (lanes_rows out))
+    (λ out is. at_node c.args.node _ (x ∷ y ∷ []) n (lanes_rows out) (ap function_of c.in-ListContains.is) c.requires.two c.requires.count (contained_given (types_of c.args.node) n x y (lanes_rows out) is)) c.list_contains.ensures

@@ -1,4 +1,4 @@
-use Rattle.std.proofs.Common.{◌≡◌, ◌∙◌, ap, length, refl, subst, sym, List, [], Result, Ok, Err}
+use Rattle.std.proofs.Common.{◌≡◌, ap, length, refl, subst, sym, List, [], Result, Ok, Err}
 use Rattle.std.specs.Prelude.{IfOk, MatchResult}
 use Rattle.vx_value.specs.Types.{Datum, utf8}
 use Rattle.vx_array.specs.Kinds.{spans_in}
