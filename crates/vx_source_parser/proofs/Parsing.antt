@@ -27,7 +27,7 @@ stopped_up_to step {bs = bs} view other (Unexpected place e) from at h p q l = (
 -- a token that is a part of an expression takes some of the text
 pub takes_some : (reading : Reading) (s u : ExpressionState) (bs : List ℕ) (from at to : ℕ) (x : Lexeme) (cs : List ℕ) → first (drop from bs) ≡ (x, cs) → drop at bs ≡ skip false (drop from bs) → from ≤ at → at ≤ to
     → (at < length bs → at < to) → step_by reading s x ≡ Ok (more u) → from < to
-takes_some plain s u bs from at to x cs p q h k l e =
+takes_some reading s u bs from at to x cs p q h k l e =
     forward bs from at to x cs p q h k l (λ n. end_stops reading s u (subst (λ y. step_by reading s y ≡ Ok (more u)) n e))
 
 -- the source text of an expression is read as it
