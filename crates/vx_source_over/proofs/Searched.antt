@@ -61,10 +61,10 @@ all_listed (x ∷ xs) l lt is = ap (list_or_misfit x.now (lent_scalars xs)) (sym
 abbrev refused_as : Constant → LogicalType → Result (Option Constant) Refusal
 refused_as c t = Err (misfit c t)
 
-pub odd_refused : (xs rest : List (Bor Constant)) (x : Bor Constant) (c : Constant) (t : LogicalType) → 0 < length xs → x ≡ get_or xs 0 x → rest ≡ drop 1 xs → None ≡ listed (lent_scalars xs)
-    → c ≡ odd_one x.now (lent_scalars rest) → t ≡ x.now.type → list_from (Some (lent_scalars xs)) ≡ Err (misfit c t)
-odd_refused [] rest x c t lt is those none odd same = absurd (omega arith)
-odd_refused (y ∷ xs) rest x c t lt is those none odd same =
+pub odd_refused : (xs rest : List (Bor Constant)) (x : Bor Constant) (c : Constant) (t : LogicalType) → c ≡ odd_one x.now (lent_scalars rest) → t ≡ x.now.type → None ≡ listed (lent_scalars xs)
+    → 0 < length xs → x ≡ get_or xs 0 x → rest ≡ drop 1 xs → list_from (Some (lent_scalars xs)) ≡ Err (misfit c t)
+odd_refused [] rest x c t odd same none lt is those = absurd (omega arith)
+odd_refused (y ∷ xs) rest x c t odd same none lt is those =
     ap (list_or_misfit y.now (lent_scalars xs)) (sym none) ∙ ap (λ (b : Bor Constant). refused_as (odd_one b.now (lent_scalars xs)) b.now.type) (sym is)
     ∙ ap (λ ys. refused_as (odd_one x.now (lent_scalars ys)) x.now.type) (sym those) ∙ ap (λ b. refused_as b x.now.type) (sym odd) ∙ ap (refused_as c) (sym same)
 
@@ -75,11 +75,12 @@ too_few [] h = refl
 too_few (a ∷ []) h = refl
 too_few (a ∷ b ∷ below) h = absurd (omega arith)
 
-pub around_first : (below xs : List Settled) (x : Settled) → 1 < length below → x ≡ get_or below 0 x → xs ≡ drop 2 below → list_around (settled_trees below) ≡ list_from (scalars_in (settled_trees (x ∷ xs)))
-around_first [] xs x lt is those = absurd (omega arith)
-around_first (a ∷ []) xs x lt is those = absurd (omega arith)
-around_first (a ∷ b ∷ below) xs x lt is those =
-    ap (λ y. list_from (scalars_in (settled_trees (y ∷ below)))) (sym is) ∙ ap (λ ys. list_from (scalars_in (settled_trees (x ∷ ys)))) (sym those)
+pub around_first : (below xs : List Settled) (x : Settled) (o : Option (List Constant)) → o ≡ scalars_in (settled_trees (x ∷ xs)) → 1 < length below → x ≡ get_or below 0 x → xs ≡ drop 2 below
+    → list_around (settled_trees below) ≡ list_from o
+around_first [] xs x o here lt is those = absurd (omega arith)
+around_first (a ∷ []) xs x o here lt is those = absurd (omega arith)
+around_first (a ∷ b ∷ below) xs x o here lt is those =
+    ap (λ y. list_from (scalars_in (settled_trees (y ∷ below)))) (sym is) ∙ ap (λ ys. list_from (scalars_in (settled_trees (x ∷ ys)))) (sym those) ∙ ap list_from (sym here)
 
 pub if_some : {A : Type 0} (r : Result (Option A) OverError) (P : Type 0) → P → IfOk r (λ l. IfSome l (λ _. P))
 if_some (Ok (Some l)) P h = h
