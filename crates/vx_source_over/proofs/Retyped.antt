@@ -14,7 +14,7 @@ use Rattle.vx_source_types.specs.Untyped.{has_texts, point_read, typed_value}
 use Rattle.vx_source_types.specs.ValueReading.{Drafted, drafted, pointed}
 use Rattle.vx_source_types.specs.declared.expectation.Expected.{Expected}
 use Rattle.vx_source_over.specs.Peers.{is_peer, has_type_of_peers, open_scalar, is_in, child_at, is_open, are_open}
-use Rattle.vx_source_over.specs.Settling.{Refusal, when_settled, read_as, fitted, as_alone, literal_as, unless, first_or, first_wish, list_around, contained, node_with, node_of, settled, owned, rest, wished, read_over, written, written_as}
+use Rattle.vx_source_over.specs.Settling.{Refusal, when_settled, read_as, fitted, as_alone, literal_as, unless, first_or, first_wish, list_around, contained, node_with, node_of, settled, owned, rest, wished, written, written_as}
 use Rattle.vx_source_over.specs.Laws.{IsValueAs, value_before, IsRetyped, same_root, other_type, same_node, in_one_list, AreRetyped, no_more, one_more, TypesAloneChange, OtherValuesStay}
 use Rattle.vx_source_over.proofs.Steps.{settled_parts}
 

@@ -1,5 +1,5 @@
 -- `in` over literals, settled: the scalars that stand in one list, the one that doesn't, and the operand.
-use Rattle.std.proofs.Common.{◌≡◌, ℕ, suc, ◌+◌, ◌<◌, ◌≤◌, List, [], ◌∷◌, length, get_or, drop, drop_of_length-le, Result, Ok, Err, refl, sym, ap, subst, ◌∙◌, arith, Bool, true, false}
+use Rattle.std.proofs.Common.{◌≡◌, ℕ, ◌+◌, ◌<◌, ◌≤◌, List, [], ◌∷◌, length, get_or, drop, drop_of_length-le, Result, Ok, Err, refl, sym, ap, subst, ◌∙◌, arith, true, false}
 use Rattle.std.specs.Borrow.{Bor}
 use Rattle.std.specs.Prelude.{Option, Some, None, IfErr, IfOk, IfSome, option_map, option_and_then, if◌then◌else◌}
 use Rattle.vx_dtype.proofs.Lists.{drop_next}

@@ -1,11 +1,10 @@
 -- The steps by which a tree is settled.
-use Rattle.std.proofs.Common.{◌≡◌, ℕ, zero, suc, ◌+◌, ◌*◌, ◌<◌, ◌≤◌, List, [], ◌∷◌, ◌++◌, length, get_or, drop, drop_of_length-le, map, Result, Ok, Err, refl, sym, ap, subst, ◌∙◌, arith, Bool, true, false, ◌&&◌}
+use Rattle.std.proofs.Common.{◌≡◌, ℕ, suc, ◌+◌, ◌<◌, ◌≤◌, List, [], ◌∷◌, ◌++◌, length, get_or, drop, drop_of_length-le, Result, Ok, Err, refl, sym, ap, subst, ◌∙◌, arith, Bool, true, false, ◌&&◌}
 use Rattle.std.specs.Borrow.{Bor}
 use Rattle.vx_dtype.specs.declared.dtype.DType.{DType}
 use Rattle.vx_value.specs.Views.{type_of}
 use Rattle.std.specs.Prelude.{Option, Some, None, IfSome, option_map, ◌||◌, not, if◌then◌else◌}
 use Rattle.std.specs.Option.{is_some}
-use Rattle.std.proofs.lemmas.Bool.{and_parts, or_parts}
 use Rattle.vx_dtype.proofs.Lists.{drop_next}
 use Rattle.vx_value.specs.Columns.{Constant}
 use Rattle.vx_value.specs.Types.{LogicalType}
@@ -23,7 +22,7 @@ use Rattle.vx_tree.specs.Views.{tree_of, trees_of}
 use Rattle.vx_source_over.specs.declared.error.OverError.{OverError}
 use Rattle.vx_source_over.specs.declared.nodes.Settled.{Settled}
 use Rattle.vx_source_over.specs.Peers.{is_peer, has_type_of_peers, open_scalar, child_at, is_open, are_open}
-use Rattle.vx_source_over.specs.Reading.{Refuses, Settles}
+use Rattle.vx_source_over.specs.Reading.{Refuses}
 use Rattle.vx_source_over.specs.Settling.{Refusal, when_settled, unless, first_or, first_wish, literal_as, node_with, node_of, settled, owned, rest, wished}
 use Rattle.vx_source_over.specs.Views.{settled_tree, settled_trees, own_trees, none_of, first_own, said_of, wish_of, IsTyped, AreTyped, EachTyped}
 use Rattle.vx_source_over.proofs.Steps.{refuses_all, settled_parts, own_after, own_after-push, own_after-end, own_refused, rest_after, rest_after-push, rest_after-end, rest_refused}

@@ -1,15 +1,14 @@
 -- What a text is read as over a scope, and why it isn't.
-use Rattle.std.proofs.Common.{◌≡◌, ◌⊎◌, inl, inr, ⊎_elim, ℕ, List, Result, Ok, Err, refl, sym, ap, subst, ◌∙◌, Bool, true, false}
-use Rattle.std.specs.Prelude.{Option, Some, None, IfErr, IfOk, IsOk, IsErr, MatchOption, MatchResult}
+use Rattle.std.proofs.Common.{◌≡◌, ◌⊎◌, inl, inr, ℕ, List, Result, Ok, Err, refl, sym, ap, subst, ◌∙◌, true, false}
+use Rattle.std.specs.Prelude.{IfErr, IfOk, IsOk, IsErr, MatchResult}
 use Rattle.std.specs.Result.{is_ok}
-use Rattle.vx_dtype.specs.declared.error.VortexError.{VortexError}
 use Rattle.vx_value.specs.Types.{LogicalType}
 use Rattle.vx_fn.specs.Functions.{Typing}
 use Rattle.vx_tree.specs.Trees.{Tree, typed}
 use Rattle.vx_source_types.proofs.Reading.{read_once}
 use Rattle.vx_source_grammar.specs.ExpressionReading.{expression_step, step_by}
 use Rattle.vx_source_grammar.specs.States.{open_as}
-use Rattle.vx_source_parser.specs.Placed.{AreReadings, tree_in}
+use Rattle.vx_source_parser.specs.Placed.{AreReadings}
 use Rattle.vx_source_parser.specs.declared.whole.Placed.{Placed}
 use Rattle.vx_source_over.specs.declared.error.OverError.{OverError}
 use Rattle.vx_source_over.specs.declared.error.OverError.TheVariants.{OutOfMemory, Unexpected, Misfit}

@@ -1,4 +1,4 @@
-use Rattle.std.proofs.Common.{◌≡◌, [], ◌∷◌, get_or, subst, sym, rules}
+use Rattle.std.proofs.Common.{◌≡◌, get_or, subst, sym, rules}
 use Rattle.vx_source_over.specs.Views.{EachTyped}
 use Rattle.vx_source_over.proofs.Searched.{contained_node, second_typed}
 use Rattle.vx_source_over.proofs.searching.contained.Goals as goal

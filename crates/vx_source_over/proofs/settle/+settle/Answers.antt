@@ -1,4 +1,4 @@
-use Rattle.std.proofs.Common.{◌≡◌, ◌∙◌, Some, Ok, Err, ap, sym, subst, arith, rules, true, false, ◌&&◌}
+use Rattle.std.proofs.Common.{◌≡◌, ◌∙◌, Ok, Err, ap, sym, subst, arith, rules, true, false, ◌&&◌}
 use Rattle.std.proofs.lemmas.Grind.{common_steps}
 use Rattle.std.specs.Prelude.{None, option_map}
 use Rattle.vx_fn.specs.Views.{function_of}
@@ -7,7 +7,7 @@ use Rattle.vx_tree.specs.Views.{tree_of, trees_of}
 use Rattle.vx_tree.proofs.Seen.{item_smaller}
 use Rattle.vx_source_over.specs.Peers.{is_peer, has_type_of_peers, open_scalar, child_at, is_open}
 use Rattle.vx_source_over.specs.Reading.{Settles, Refuses}
-use Rattle.vx_source_over.specs.Settling.{unless, settled, owned, rest, wished, first_type}
+use Rattle.vx_source_over.specs.Settling.{unless, settled, owned, rest}
 use Rattle.vx_source_over.specs.Views.{AreTyped, EachTyped, none_of, other_of, own_trees, said_of, settled_tree, settled_trees, wish_of}
 use Rattle.vx_source_over.proofs.Settles.{seen_call, none_there, peer_refused, node_waits, rest_is_refused, node_refused, node_settled, peer_said, other_said, own_next, own_stops, own_end, typed_push, one_typed, lent_wish, rest_next, rest_stops, rest_end, child_said, said_first, said_then, typed_first, typed_behind, each_typed_push}
 use Rattle.vx_source_over.proofs.settle.+settle.Goals as goal

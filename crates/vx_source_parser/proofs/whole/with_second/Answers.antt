@@ -1,4 +1,4 @@
-use Rattle.std.proofs.Common.{◌≡◌, true, Ok, Err, sym, subst, rules}
+use Rattle.std.proofs.Common.{◌≡◌, true, Err, sym, subst, rules}
 use Rattle.std.specs.Prelude.{IfErr}
 use Rattle.vx_source_types.specs.declared.error.ParseError.TheVariants.{OutOfMemory}
 use Rattle.vx_source_types.proofs.Parsing.{parses_as}
