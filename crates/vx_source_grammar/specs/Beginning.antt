@@ -12,7 +12,7 @@ use Rattle.vx_source_types.specs.Tokens.{Lexeme, word, quoted, number as numeral
 use Rattle.vx_source_types.specs.Names.{name_at, same_word}
 use Rattle.vx_source_types.specs.Reading.{Goes, more, done, refused}
 use Rattle.vx_source_types.specs.TypeReading.{TypeState, type_start, within}
-use Rattle.vx_source_types.specs.Literals.{typed_literal}
+use Rattle.vx_source_types.specs.Literals.{open_literal, plain_literal, typed_literal}
 use Rattle.vx_source_types.specs.ScalarReading.{suffixed}
 use Rattle.vx_source_types.specs.ValueReading.{Drafted, drafted, ValueState}
 use Rattle.vx_source_grammar.specs.declared.words.Keyword.{Keyword}
@@ -23,7 +23,7 @@ use Rattle.vx_source_grammar.specs.Closing.{called, node_stands}
 use Rattle.vx_source_grammar.specs.Following.{follows, field_goes}
 use Rattle.vx_source_grammar.specs.Joining.{over}
 use Rattle.vx_source_grammar.specs.Numbers.{number_begins, value_begins}
-use Rattle.vx_source_grammar.specs.States.{Callee, own_of, any_of, if_of, condition_part, Frame, in_not, in_minus, in_binary, in_like, in_lower, in_upper, in_paren, in_call, in_pack, in_cast, in_case, TypeFor, for_literal, for_cast, for_cast_call, operand_due, first_child, at_word, at_vortex, at_id, in_options, children_due, first_packed, packed_value, pack_end, case_due, at_plus, at_minus, in_value, in_type, ExpressionAnswer, goes, when_read, stands}
+use Rattle.vx_source_grammar.specs.States.{Reading, alone, open_as, Callee, own_of, any_of, if_of, condition_part, Frame, in_not, in_minus, in_binary, in_like, in_lower, in_upper, in_paren, in_call, in_pack, in_cast, in_case, TypeFor, for_literal, for_cast, for_cast_call, operand_due, first_child, at_word, at_vortex, at_id, in_options, children_due, first_packed, packed_value, pack_end, case_due, at_plus, at_minus, in_value, in_type, ExpressionAnswer, goes, when_read, stands}
 
 -- a node stands there, before the token
 abbrev pub node_before : List Frame → ℕ → Function → List Tree → Lexeme → ExpressionAnswer
@@ -38,6 +38,10 @@ literal_before fs r x (Err e) = Err e
 -- how a value is read that no type follows
 abbrev pub PlainReading : Type 0
 PlainReading = Drafted → Result Constant Expected
+
+abbrev pub plain_by : Reading → PlainReading
+plain_by alone = plain_literal
+plain_by (open_as other) = open_literal other
 
 abbrev pub value_ends : PlainReading → List Frame → ℕ → Drafted → Lexeme → ExpressionAnswer
 value_ends plain fs r d (sign DoubleColon) = goes fs (in_type (for_literal d) (type_start r)) r

@@ -12,7 +12,7 @@ use Rattle.vx_source_grammar.specs.declared.words.Keyword.{Keyword}
 use Rattle.vx_source_grammar.specs.declared.words.Keyword.TheVariants.{As, When, Then, Else, End}
 use Rattle.vx_source_grammar.specs.Keywords.{keyword_of}
 use Rattle.vx_source_grammar.specs.Joining.{over, among, reduced}
-use Rattle.vx_source_grammar.specs.States.{Callee, own_of, any_of, if_of, CasePart, condition_part, value_part, else_part, Frame, in_lower, in_paren, in_members, in_call, in_pack, in_cast, in_case, for_cast_call, operand_due, packed_due, pack_end, in_type, ExpressionAnswer, goes, when_read, stands, stands_loosely}
+use Rattle.vx_source_grammar.specs.States.{Callee, own_of, any_of, if_of, CasePart, condition_part, value_part, else_part, Reading, Frame, in_lower, in_paren, in_members, in_call, in_pack, in_cast, in_case, for_cast_call, operand_due, packed_due, pack_end, in_type, ExpressionAnswer, goes, when_read, stands, stands_loosely}
 
 -- the keyword that a token is
 abbrev pub keyword_at : Lexeme → Option Keyword
@@ -30,10 +30,10 @@ called fs outside (own_of f) es = elim (arity_of f == length es) [ true ↦ node
 called fs outside if_of es = elim (length es == 3) [ true ↦ node_stands fs outside (case_when 1 true) es | false ↦ Err Arity ]
 
 -- what follows an item of `in`
-abbrev pub member_ends : List Frame → ℕ → Tree → List Tree → ℕ → Lexeme → ExpressionAnswer
-member_ends fs r e es outside (sign Comma) = goes (in_members e es outside ∷ fs) operand_due r
-member_ends fs r e es outside (sign CloseParen) = when_read (stands_loosely fs outside) (among e outside es)
-member_ends fs r e es outside x = refused x CommaOrCloseParen
+abbrev pub member_ends : List Frame → ℕ → Reading → Tree → List Tree → ℕ → Lexeme → ExpressionAnswer
+member_ends fs r reading e es outside (sign Comma) = goes (in_members reading e es outside ∷ fs) operand_due r
+member_ends fs r reading e es outside (sign CloseParen) = when_read (stands_loosely fs outside) (among reading e outside es)
+member_ends fs r reading e es outside x = refused x CommaOrCloseParen
 
 -- what follows a child of a call
 abbrev pub child_ends : List Frame → ℕ → Callee → List Tree → ℕ → Lexeme → ExpressionAnswer
@@ -83,7 +83,7 @@ whole_ends e x = refused x Operator
 abbrev pub bracket_goes : ℕ → Lexeme → List Frame → Tree → ExpressionAnswer
 bracket_goes r x [] e = whole_ends e x
 bracket_goes r x (in_paren outside ∷ fs) e = paren_ends fs e outside x
-bracket_goes r x (in_members lhs es outside ∷ fs) e = member_ends fs r lhs (es ++ e ∷ []) outside x
+bracket_goes r x (in_members reading lhs es outside ∷ fs) e = member_ends fs r reading lhs (es ++ e ∷ []) outside x
 bracket_goes r x (in_call callee es outside ∷ fs) e = child_ends fs r callee (es ++ e ∷ []) outside x
 bracket_goes r x (in_pack names es outside ∷ fs) e = packed_ends fs r names (es ++ e ∷ []) outside x
 bracket_goes r x (in_cast outside ∷ fs) e = cast_goes fs r e outside x (keyword_at x)

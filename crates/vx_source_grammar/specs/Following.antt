@@ -22,7 +22,7 @@ use Rattle.vx_source_grammar.specs.Keywords.{keyword_of}
 use Rattle.vx_source_grammar.specs.Closing.{closes, node_stands}
 use Rattle.vx_source_grammar.specs.Joining.{arithmetic_level, over, reduced}
 use Rattle.vx_source_grammar.specs.Numbers.{number_begins}
-use Rattle.vx_source_grammar.specs.States.{Frame, in_chain, in_not, in_binary, in_like, in_lower, in_upper, in_members, for_cast, operand_due, at_dot, at_selection, at_exclusion, selected_name, selected_next, at_not, at_is, at_is_not, at_in, in_type, ExpressionAnswer, goes, when_read, stands_loosely}
+use Rattle.vx_source_grammar.specs.States.{Reading, Frame, in_chain, in_not, in_binary, in_like, in_lower, in_upper, in_members, for_cast, operand_due, at_dot, at_selection, at_exclusion, selected_name, selected_next, at_not, at_is, at_is_not, at_in, in_type, ExpressionAnswer, goes, when_read, stands_loosely}
 
 -- the comparison of a sign
 abbrev pub comparison_of : Sign → Option Comparison
@@ -182,9 +182,9 @@ not_goes fs r e x (Some In) = goes (in_not ∷ fs) (at_in e) r
 not_goes fs r e x k = refused x LikeWord
 
 -- the bracket around the items of `in`
-abbrev pub members_at : List Frame → ℕ → Tree → Lexeme → ExpressionAnswer
-members_at fs r e (sign OpenParen) = within r (λ less. goes (in_members e [] r ∷ fs) operand_due less)
-members_at fs r e x = refused x AParen
+abbrev pub members_at : Reading → List Frame → ℕ → Tree → Lexeme → ExpressionAnswer
+members_at reading fs r e (sign OpenParen) = within r (λ less. goes (in_members reading e [] r ∷ fs) operand_due less)
+members_at reading fs r e x = refused x AParen
 
 -- a test of the operand, by a function of it
 abbrev pub null_goes : List Frame → ℕ → Tree → Function → ExpressionAnswer

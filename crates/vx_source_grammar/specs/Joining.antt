@@ -1,14 +1,17 @@
 -- Operators that have their last operand.
-use Rattle.std.specs.Prelude.{ℕ, zero, suc, true, false, List, [], ◌∷◌, ◌++◌, length, Result, Ok, Err, nat_le}
+use Rattle.std.specs.Prelude.{ℕ, zero, suc, Bool, true, false, List, [], ◌∷◌, ◌++◌, length, Option, Some, None, option_and_then, Result, Ok, Err, nat_le}
+use Rattle.std.specs.Option.{is_some}
+use Rattle.vx_value.specs.Columns.{Constant}
 use Rattle.vx_floats.specs.declared.arithmetic.Arithmetic.{Arithmetic}
 use Rattle.vx_floats.specs.declared.arithmetic.Arithmetic.TheVariants.{Sum, Difference, Product, Quotient, Remainder}
-use Rattle.vx_fn.specs.Functions.{Function, equal, Operation, compares, or_else, computes, logical_not, binary, like, between}
+use Rattle.vx_fn.specs.Functions.{Function, equal, Operation, compares, or_else, computes, literal, logical_not, binary, like, between, list_contains}
 use Rattle.vx_tree.specs.Trees.{Tree}
 use Rattle.vx_tree.specs.Views.{trees_from}
 use Rattle.vx_source_types.specs.declared.expectation.Expected.{Expected}
 use Rattle.vx_source_types.specs.declared.expectation.Expected.TheVariants.{Operand}
+use Rattle.vx_source_grammar.specs.Listing.{listed, scalars_in}
 use Rattle.vx_source_grammar.specs.Nodes.{node_read}
-use Rattle.vx_source_grammar.specs.States.{Frame, in_chain, in_not, in_minus, in_binary, in_like, in_upper, when_read}
+use Rattle.vx_source_grammar.specs.States.{Frame, in_chain, in_not, in_minus, in_binary, in_like, in_upper, Reading, alone, open_as, when_read}
 
 -- how tightly arithmetic binds: products, quotients and remainders more tightly than sums and differences
 abbrev pub arithmetic_level : Arithmetic → ℕ
@@ -60,8 +63,32 @@ equal_to e r [] = Ok []
 equal_to e r (d ∷ ds) = when_read (λ z. when_read (λ zs. Ok (z ∷ zs)) (equal_to e r ds)) (over (binary (compares equal)) (e ∷ d ∷ []) r)
 
 -- the operand is one of the items: a chain of these comparisons
-abbrev pub among : Tree → ℕ → List Tree → Result Tree Expected
-among e r ds = when_read (chained or_else r) (equal_to e r ds)
+abbrev pub equal_to_one : Tree → ℕ → List Tree → Result Tree Expected
+equal_to_one e r ds = when_read (chained or_else r) (equal_to e r ds)
+
+-- the operand is an element of the list
+abbrev pub contained : Tree → ℕ → Constant → Result Tree Expected
+contained e r c = when_read (λ l. over list_contains (l ∷ e ∷ []) r) (over (literal c.type c.value) [] r)
+
+-- the operand is an element of the list, if there is one, and else one of the items
+abbrev pub contained_or : Tree → ℕ → List Tree → Option Constant → Result Tree Expected
+contained_or e r ds (Some c) = contained e r c
+contained_or e r ds None = equal_to_one e r ds
+
+-- what stands there for a list where literals are left open: a function over them and the operand, which stands behind the first;
+-- the readings differ in the function
+abbrev pub open_search : Bool → Function
+open_search false = binary (compares equal)
+open_search true = list_contains
+
+abbrev pub behind_first : Tree → List Tree → List Tree
+behind_first e [] = e ∷ []
+behind_first e (d ∷ ds) = d ∷ e ∷ ds
+
+-- the operand is one of the items
+abbrev pub among : Reading → Tree → ℕ → List Tree → Result Tree Expected
+among alone e r ds = contained_or e r ds (option_and_then listed (scalars_in (trees_from ds)))
+among (open_as other) e r ds = elim (is_some (scalars_in (trees_from ds))) [ true ↦ over (open_search other) (behind_first e ds) r | false ↦ equal_to_one e r ds ]
 
 -- what waits for the operand, with it
 abbrev pub joined : ℕ → Frame → Tree → Result Tree Expected

@@ -2,6 +2,7 @@ pub mod Keywords
 pub mod Nodes
 pub mod OptionReading
 pub mod States
+pub mod Listing
 pub mod Joining
 pub mod Closing
 pub mod Numbers

@@ -9,6 +9,12 @@ use Rattle.vx_source_types.specs.Reading.{Goes, more}
 use Rattle.vx_source_types.specs.TypeReading.{TypeState}
 use Rattle.vx_source_types.specs.ValueReading.{Drafted, ValueState}
 
+-- how a text is read: as its literals stand alone, or where those that were written without a type are left open, as one of two
+-- readings
+pub data Reading : Type 0 where
+  alone : Reading
+  open_as : (other : Bool) → Reading
+
 -- what a call is of: a function over as many children as it takes, one over any number, or a CASE of one condition
 pub data Callee : Type 0 where
   own_of : Function → Callee
@@ -32,7 +38,7 @@ pub data Frame : Type 0 where
   in_lower : Tree → Frame
   in_upper : (lower_strict upper_strict : Bool) → (array lower : Tree) → Frame
   in_paren : (room : ℕ) → Frame
-  in_members : Tree → List Tree → (room : ℕ) → Frame
+  in_members : Reading → Tree → List Tree → (room : ℕ) → Frame
   in_call : Callee → List Tree → (room : ℕ) → Frame
   in_pack : List Name → List Tree → (room : ℕ) → Frame
   in_cast : (room : ℕ) → Frame

@@ -13,11 +13,11 @@ use Rattle.vx_source_types.specs.Literals.{typed_literal}
 use Rattle.vx_source_types.specs.ScalarReading.{in_value as in_scalar_value, value_after}
 use Rattle.vx_source_types.specs.ValueReading.{Drafted, ValueState, value_step}
 use Rattle.vx_source_types.proofs.ScalarEnds.{end_stops as scalar_stops}
-use Rattle.vx_source_grammar.specs.Beginning.{PlainReading, fitting, field_read, literal_before, zero_read, node_before, type_goes, value_goes}
+use Rattle.vx_source_grammar.specs.Beginning.{PlainReading, plain_by, fitting, field_read, literal_before, zero_read, node_before, type_goes, value_goes}
 use Rattle.vx_source_grammar.specs.Closing.{bracket_goes, closes}
 use Rattle.vx_source_grammar.specs.ExpressionReading.{next_by, step_by}
 use Rattle.vx_source_grammar.specs.Joining.{over, reduced}
-use Rattle.vx_source_grammar.specs.States.{condition_part, value_part, else_part, Frame, in_chain, in_not, in_minus, in_binary, in_like, in_lower, in_upper, in_paren, in_members, in_call, in_pack, in_cast, in_case, TypeFor, for_literal, for_cast, for_cast_call, Mode, operand_due, first_child, tight, loose, at_word, at_vortex, at_id, in_options, children_due, at_dot, at_selection, at_exclusion, selected_name, selected_next, first_packed, packed_due, packed_value, pack_end, at_not, at_is, at_is_not, at_in, case_due, at_plus, at_minus, in_value, in_type, ExpressionState, ExpressionAnswer, when_read}
+use Rattle.vx_source_grammar.specs.States.{condition_part, value_part, else_part, Reading, Frame, in_chain, in_not, in_minus, in_binary, in_like, in_lower, in_upper, in_paren, in_members, in_call, in_pack, in_cast, in_case, TypeFor, for_literal, for_cast, for_cast_call, Mode, operand_due, first_child, tight, loose, at_word, at_vortex, at_id, in_options, children_due, at_dot, at_selection, at_exclusion, selected_name, selected_next, first_packed, packed_due, packed_value, pack_end, at_not, at_is, at_is_not, at_in, case_due, at_plus, at_minus, in_value, in_type, ExpressionState, ExpressionAnswer, when_read}
 
 -- the answer isn't that more follows
 abbrev Ends : ExpressionAnswer → Type 0
@@ -32,7 +32,7 @@ read_ends f (Err e) h = λ u q. (cc)
 bracket_ends : (r : ℕ) (fs : List Frame) (e : Tree) → Ends (bracket_goes r end fs e)
 bracket_ends r [] e = λ u q. (cc)
 bracket_ends r (in_paren outside ∷ fs) e = λ u q. (cc)
-bracket_ends r (in_members lhs es outside ∷ fs) e = λ u q. (cc)
+bracket_ends r (in_members reading lhs es outside ∷ fs) e = λ u q. (cc)
 bracket_ends r (in_call callee es outside ∷ fs) e = λ u q. (cc)
 bracket_ends r (in_pack names es outside ∷ fs) e = λ u q. (cc)
 bracket_ends r (in_cast outside ∷ fs) e = λ u q. (cc)
@@ -76,34 +76,34 @@ type_ended fs r wanted (Err e) h = λ u q. (cc)
 
 -- ---- whatever is due
 
-next_ends : (plain : PlainReading) (fs : List Frame) (m : Mode) (r : ℕ) → Ends (next_by plain fs m r end)
-next_ends plain fs operand_due r = λ u q. (cc)
-next_ends plain fs first_child r = λ u q. (cc)
-next_ends plain fs (tight e) r = closed_ends fs r e
-next_ends plain fs (loose e) r = closed_ends fs r e
-next_ends plain fs (at_word a) r = node_ends fs r (get_item a) (root ∷ [])
-next_ends plain fs (at_vortex a) r = read_ends _ (field_read a r) (λ e u q. (cc))
-next_ends plain fs (at_id a b) r = read_ends _ (field_read a r) (λ e. node_ends fs r (get_item b) (e ∷ []))
-next_ends plain fs (in_options b xs opened less) r = λ u q. (cc)
-next_ends plain fs (children_due f) r = λ u q. (cc)
-next_ends plain fs (at_dot e) r = λ u q. (cc)
-next_ends plain fs (at_selection e) r = λ u q. (cc)
-next_ends plain fs (at_exclusion e) r = λ u q. (cc)
-next_ends plain fs (selected_name e excludes names) r = λ u q. (cc)
-next_ends plain fs (selected_next e excludes names) r = λ u q. (cc)
-next_ends plain fs first_packed r = λ u q. (cc)
-next_ends plain fs packed_due r = λ u q. (cc)
-next_ends plain fs packed_value r = λ u q. (cc)
-next_ends plain fs (pack_end names es) r = node_ends fs r (pack names false) es
-next_ends plain fs (at_not e) r = λ u q. (cc)
-next_ends plain fs (at_is e) r = λ u q. (cc)
-next_ends plain fs (at_is_not e) r = λ u q. (cc)
-next_ends plain fs (at_in e) r = λ u q. (cc)
-next_ends plain fs case_due r = λ u q. (cc)
-next_ends plain fs at_plus r = λ u q. (cc)
-next_ends plain fs at_minus r = read_ends _ (zero_read plain r) (λ z u q. (cc))
-next_ends plain fs (in_value s) r = value_ended plain fs r (value_step s end) (value_stops s)
-next_ends plain fs (in_type wanted s) r = type_ended fs r wanted (type_step s end) (type_stops s)
+next_ends : (reading : Reading) (fs : List Frame) (m : Mode) (r : ℕ) → Ends (next_by reading fs m r end)
+next_ends reading fs operand_due r = λ u q. (cc)
+next_ends reading fs first_child r = λ u q. (cc)
+next_ends reading fs (tight e) r = closed_ends fs r e
+next_ends reading fs (loose e) r = closed_ends fs r e
+next_ends reading fs (at_word a) r = node_ends fs r (get_item a) (root ∷ [])
+next_ends reading fs (at_vortex a) r = read_ends _ (field_read a r) (λ e u q. (cc))
+next_ends reading fs (at_id a b) r = read_ends _ (field_read a r) (λ e. node_ends fs r (get_item b) (e ∷ []))
+next_ends reading fs (in_options b xs opened less) r = λ u q. (cc)
+next_ends reading fs (children_due f) r = λ u q. (cc)
+next_ends reading fs (at_dot e) r = λ u q. (cc)
+next_ends reading fs (at_selection e) r = λ u q. (cc)
+next_ends reading fs (at_exclusion e) r = λ u q. (cc)
+next_ends reading fs (selected_name e excludes names) r = λ u q. (cc)
+next_ends reading fs (selected_next e excludes names) r = λ u q. (cc)
+next_ends reading fs first_packed r = λ u q. (cc)
+next_ends reading fs packed_due r = λ u q. (cc)
+next_ends reading fs packed_value r = λ u q. (cc)
+next_ends reading fs (pack_end names es) r = node_ends fs r (pack names false) es
+next_ends reading fs (at_not e) r = λ u q. (cc)
+next_ends reading fs (at_is e) r = λ u q. (cc)
+next_ends reading fs (at_is_not e) r = λ u q. (cc)
+next_ends reading fs (at_in e) r = λ u q. (cc)
+next_ends reading fs case_due r = λ u q. (cc)
+next_ends reading fs at_plus r = λ u q. (cc)
+next_ends reading fs at_minus r = read_ends _ (zero_read (plain_by reading) r) (λ z u q. (cc))
+next_ends reading fs (in_value s) r = value_ended (plain_by reading) fs r (value_step s end) (value_stops s)
+next_ends reading fs (in_type wanted s) r = type_ended fs r wanted (type_step s end) (type_stops s)
 
-pub end_stops : (plain : PlainReading) (s u : ExpressionState) → ¬ (step_by plain s end ≡ Ok (more u))
-end_stops plain s u = next_ends plain s.frames s.mode s.room u
+pub end_stops : (reading : Reading) (s u : ExpressionState) → ¬ (step_by reading s end ≡ Ok (more u))
+end_stops reading s u = next_ends reading s.frames s.mode s.room u

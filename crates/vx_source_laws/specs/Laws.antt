@@ -4,16 +4,15 @@ use Rattle.vx_tree.specs.Trees.{Tree}
 use Rattle.vx_source_types.specs.Tokens.{end}
 use Rattle.vx_source_types.specs.Reading.{more, IsRead}
 use Rattle.vx_source_writer.specs.SourceTexts.{source}
-use Rattle.vx_source_grammar.specs.Beginning.{PlainReading}
 use Rattle.vx_source_grammar.specs.ExpressionReading.{expression_step, step_by}
 use Rattle.vx_source_grammar.specs.Nodes.{height_of}
-use Rattle.vx_source_grammar.specs.States.{ExpressionState, expression_start}
+use Rattle.vx_source_grammar.specs.States.{Reading, ExpressionState, expression_start}
 use Rattle.vx_source_laws.specs.Nesting.{nesting, own_brackets}
 use Rattle.vx_source_laws.specs.SpelledTrees.{IsSpelledTree}
 
--- where the text ends, nothing more is read, however values without a type are
+-- where the text ends, nothing more is read, however literals without a type are
 abbrev pub EndStops : Type 0
-EndStops = (plain : PlainReading) (s u : ExpressionState) → ¬ (step_by plain s end ≡ Ok (more u))
+EndStops = (reading : Reading) (s u : ExpressionState) → ¬ (step_by reading s end ≡ Ok (more u))
 
 -- the source text of a tree is read as that tree, where so much nesting is allowed
 abbrev pub SourceIsReadAgain : Type 0

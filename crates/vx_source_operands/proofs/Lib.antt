@@ -4,7 +4,8 @@ pub mod Cases
 pub mod Placing
 pub mod Keywords
 pub mod Marks
-pub mod Members
+pub mod EqualItems
+pub mod Gathering
 pub mod NameLists
 pub mod Packs
 pub mod ReadAll

@@ -1,8 +1,9 @@
 pub mod Levels
 pub mod Places
 pub mod PlacedNodes
+pub mod PlainViews
 pub mod OperandViews
+pub mod ListViews
 pub mod NameParts
 pub mod Parts
 pub mod OptionViews
-pub mod PlainViews

@@ -11,6 +11,7 @@ use Rattle.vx_source_types.specs.Reading.{Goes, more, done}
 use Rattle.vx_source_types.specs.TypeViews as types
 use Rattle.vx_source_types.specs.ValueViews as values
 use Rattle.vx_source_grammar.specs.States as reading
+use Rattle.vx_source_operands.specs.PlainViews.{reading_of}
 use Rattle.vx_source_operands.specs.declared.operand.Operand.{Operand}
 use Rattle.vx_source_operands.specs.declared.frame.Callee.{Callee}
 use Rattle.vx_source_operands.specs.declared.frame.Callee.TheVariants.{Own, Any, If}
@@ -64,7 +65,7 @@ frame_of (Like options o) = reading.in_like options.negated options.case_insensi
 frame_of (Lower o) = reading.in_lower (operand_of o)
 frame_of (Upper r) = range_of r.value
 frame_of (Paren b) = reading.in_paren b.room
-frame_of (Members o os b) = reading.in_members (operand_of o.value) (operands_of os.items) b.room
+frame_of (Members plain o os b) = reading.in_members (reading_of plain) (operand_of o.value) (operands_of os.items) b.room
 frame_of (Call callee os b) = reading.in_call (callee_of callee.value) (operands_of os.items) b.room
 frame_of (Pack names os b) = reading.in_pack names.items (operands_of os.items) b.room
 frame_of (Cast b) = reading.in_cast b.room

@@ -8,6 +8,7 @@ ghost use Rattle.vx_source_operands.specs.Levels.{rank_of};
 ghost use Rattle.vx_source_operands.specs.OperandViews.{frame_of};
 
 use crate::operand::Operand;
+use crate::plain::PlainValues;
 use vx_dtype::FieldName;
 use vx_fn::{LikeOptions, Operator, ScalarFnRef, StrictComparison};
 
@@ -77,8 +78,8 @@ pub enum Frame {
     Upper(Box<OpenRange>),
     /// `(`
     Paren(Bracket),
-    /// `in (` behind its operand, with the items so far.
-    Members(Box<Operand>, Vec<Operand>, Bracket),
+    /// `in (` behind its operand, with the items so far, and how values are read there that no type follows.
+    Members(PlainValues, Box<Operand>, Vec<Operand>, Bracket),
     /// A call's children.
     Call(Box<Callee>, Vec<Operand>, Bracket),
     /// `pack(`, with the names and the operands so far.
@@ -185,7 +186,7 @@ impl Frame {
             Frame::Like(_, _) | Frame::Upper(_) => Some(Level::Comparison),
             Frame::Lower(_)
             | Frame::Paren(_)
-            | Frame::Members(_, _, _)
+            | Frame::Members(_, _, _, _)
             | Frame::Call(_, _, _)
             | Frame::Pack(_, _, _)
             | Frame::Cast(_)

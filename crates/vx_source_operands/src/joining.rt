@@ -1,7 +1,7 @@
 // Operators that have their last operand.
 ghost use Rattle.std.specs.Prelude.{◌≡◌, ℕ};
 ghost use Rattle.vx_fn.specs.Views.{operation_of};
-ghost use Rattle.vx_source_grammar.specs.Joining.{among, chained, equal_to, joined, paired, reduced};
+ghost use Rattle.vx_source_grammar.specs.Joining.{chained, joined, paired, reduced};
 ghost use Rattle.vx_source_operands.specs.Levels.{rank_of};
 ghost use Rattle.vx_source_operands.specs.Places.{ReadsUpTo};
 ghost use Rattle.vx_source_operands.specs.OperandViews.{frame_of, frames_of, operand_of, operands_in, operands_of, range_of, reduced_of};
@@ -10,7 +10,6 @@ use crate::context::Context;
 use crate::frame::{Frame, Level, OpenRange};
 use crate::nodes::{node, node_between, node_over};
 use crate::operand::Operand;
-use crate::repeated::{equal_again, repeated};
 use vx_fn::{BetweenOptions, EmptyOptions, Operator, ScalarFnRef};
 use vx_source_types::{Expected, ParseError, expected};
 
@@ -87,39 +86,12 @@ fn between(context: Context, range: OpenRange, upper: Operand) -> Result<Operand
     node(context, function, operands, bytes)
 }
 
-/// Whether the operand is one of the items: its comparisons with each of them as a chain of `or`. The operand is repeated as
-/// clones, which share what is below its first node. Refuses as `reduce` does.
-pub fn among(context: Context, operand: Operand, items: Vec<Operand>) -> Result<Operand, ParseError>
-    ensures reads { ReadsUpTo context.entry.found.now.at operand_of result (among (operand_of operand) context.entry.room (operands_of items.items)) }
-{
-    let equal = equal_to_each(context, operand, items)?;
-    chain(context, Operator::Or, equal)
-}
-
-// The comparisons of the operand with each of the items.
-fn equal_to_each(
-    context: Context,
-    operand: Operand,
-    items: Vec<Operand>,
-) -> Result<Vec<Operand>, ParseError>
-    ensures reads { ReadsUpTo context.entry.found.now.at operands_in result (equal_to (operand_of operand) context.entry.room (operands_of items.items)) }
-{
-    let mut equal = Vec::with_capacity(context.alloc, items.len())?;
-    let again = repeated(&operand)?;
-    let mut items = items.into_iter();
-    let Some(first) = items.next() else {
-        return Ok(equal);
-    };
-    let function = ScalarFnRef::Binary(Operator::Eq);
-    equal.push(node_between(context, function, operand, first)?)?;
-    while let Some(item) = items.next() {
-        equal.push(equal_again(context, &again, item)?)?;
-    }
-    Ok(equal)
-}
-
 // The items joined in pairs, round after round.
-fn chain(context: Context, operator: Operator, items: Vec<Operand>) -> Result<Operand, ParseError>
+pub(crate) fn chain(
+    context: Context,
+    operator: Operator,
+    items: Vec<Operand>,
+) -> Result<Operand, ParseError>
     ensures reads { ReadsUpTo context.entry.found.now.at operand_of result (chained (operation_of operator) context.entry.room (operands_of items.items)) }
 {
     let mut left = items;

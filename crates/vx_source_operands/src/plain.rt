@@ -11,7 +11,7 @@ use vx_value::Scalar;
 pub enum PlainValues {
     /// As it is alone: a whole number is an `i32`, one with a point an `f64`, and a null needs its type.
     Alone,
-    /// As one that may take another type: of one of two, which differ.
+    /// As one that may take another type: of one of two, which differ, and so do the functions that stand there for `in`.
     Open(bool),
 }
 

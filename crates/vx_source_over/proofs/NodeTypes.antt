@@ -18,11 +18,11 @@ use Rattle.vx_dtype.specs.declared.error.VortexError.{VortexError}
 use Rattle.vx_value.specs.Types.{LogicalType, Datum}
 use Rattle.vx_value.specs.Views.{type_of}
 use Rattle.vx_fn.specs.Functions.{Function, literal, Typing, fn_type}
-use Rattle.vx_tree.specs.Trees.{Tree, call, Trees, on_ok, typed, each_typed}
+use Rattle.vx_tree.specs.Trees.{Tree, call, on_ok, typed, each_typed}
 use Rattle.vx_tree.specs.Views.{tree_of, trees_from, trees_of}
 use Rattle.vx_source_over.specs.declared.nodes.Settled.{Settled}
 use Rattle.vx_source_over.specs.Settling.{type_over, first_type}
-use Rattle.vx_source_over.specs.Views.{settled_tree, settled_trees, IsTyped, AreTyped, EachTyped, dtype_in, own_trees, put_type, type_of_all, types_of}
+use Rattle.vx_source_over.specs.Views.{settled_tree, settled_trees, AreTyped, EachTyped, dtype_in, own_trees, put_type, type_of_all, types_of}
 
 pub types_of-push : (xs : List Settled) (x : Settled) → types_of (xs ++ x ∷ []) ≡ types_of xs ++ put_type (option_map type_of x.dtype) []
 types_of-push [] x = refl

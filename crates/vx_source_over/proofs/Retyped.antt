@@ -13,9 +13,9 @@ use Rattle.vx_source_types.specs.Tokens.{is_whole}
 use Rattle.vx_source_types.specs.Untyped.{has_texts, point_read, typed_value}
 use Rattle.vx_source_types.specs.ValueReading.{Drafted, drafted, pointed}
 use Rattle.vx_source_types.specs.declared.expectation.Expected.{Expected}
-use Rattle.vx_source_over.specs.Peers.{is_peer, has_type_of_peers, open_scalar, child_at, is_open, are_open}
-use Rattle.vx_source_over.specs.Settling.{Refusal, when_settled, read_as, fitted, as_alone, literal_as, unless, first_or, first_wish, node_of, settled, owned, rest, wished, read_over, written, written_as}
-use Rattle.vx_source_over.specs.Laws.{IsValueAs, value_before, IsRetyped, same_root, other_type, same_node, AreRetyped, no_more, one_more, TypesAloneChange, OtherValuesStay}
+use Rattle.vx_source_over.specs.Peers.{is_peer, has_type_of_peers, open_scalar, is_in, child_at, is_open, are_open}
+use Rattle.vx_source_over.specs.Settling.{Refusal, when_settled, read_as, fitted, as_alone, literal_as, unless, first_or, first_wish, list_around, contained, node_with, node_of, settled, owned, rest, wished, written, written_as}
+use Rattle.vx_source_over.specs.Laws.{IsValueAs, value_before, IsRetyped, same_root, other_type, same_node, in_one_list, AreRetyped, no_more, one_more, TypesAloneChange, OtherValuesStay}
 use Rattle.vx_source_over.proofs.Steps.{settled_parts}
 
 abbrev ok_tree : Tree → Result Tree Refusal
@@ -172,14 +172,22 @@ put_own : (i : ℕ) (e : Tree) (es : Trees) (d : Option Tree) (x : Option Tree) 
 put_own i e es d None own k h = h
 put_own i e es d (Some t) own k h = (k t refl, h)
 
+-- the node over what is below it, or for `in` over literals a search in their list
+node_retyped : (f : Function) (es ts : Trees) (d : Option Tree) (t : Tree) → open_scalar f d ≡ None → AreRetyped 0 es d ts → node_with f d ts ≡ Ok t → IsRetyped (call f es) d t
+node_retyped f es ts d t bare below h = go (is_in f d) refl h
+  where
+    go : (b : Bool) → is_in f d ≡ b → (if b then when_settled (λ l. Ok (contained f ts l)) (list_around ts) else Ok (call f ts)) ≡ Ok t → IsRetyped (call f es) d t
+    go true q k = in_one_list q below h
+    go false q k = subst (IsRetyped (call f es) d) (the_tree (call f ts) t k) (same_node bare q below)
+
 module _ (s : LogicalType) (w : Option LogicalType) (f : Function) (es : Trees) (d : Option Tree) (t : Tree) (below : Result Trees Refusal) (k : (ts : Trees) → below ≡ Ok ts → AreRetyped 0 es d ts) where
-  node_so : (o : Option Constant) → open_scalar f d ≡ o → node_of f es w o below ≡ Ok t → IsRetyped (call f es) d t
+  node_so : (o : Option Constant) → open_scalar f d ≡ o → node_of f es d w o below ≡ Ok t → IsRetyped (call f es) d t
   node_so (Some v) q h =
       let p = settled_parts _ (literal_as w v) t h in
       let g = literal_is w v p.0 p.1 in
       let is : call (literal g.0 g.1) es ≡ t = cc (p.2, g.2) in
       subst (IsRetyped (call f es) d) is (other_type q g.3)
-  node_so None q h = let p = settled_parts _ below t h in subst (IsRetyped (call f es) d) (the_tree (call f p.0) t p.2) (same_node q (k p.0 p.1))
+  node_so None q h = let p = settled_parts (node_with f d) below t h in node_retyped f es p.0 d t q (k p.0 p.1) p.2
 
 -- ---- trees
 
@@ -189,8 +197,8 @@ mutual
   settled_retyped s (call f es) d t o h =
       let own = settled_parts _ (owned s f 0 es d) t h in
       let below = settled_parts _ (rest s (first_wish s f own.0) f 0 es d own.0) t own.2 in
-      subst (IsRetyped (call f es) d) (the_tree (call f below.0) t below.2)
-      (same_node (no_literal (open_scalar f d) (has_type_of_peers f && are_open f 0 es d) o) (rest_retyped s (first_wish s f own.0) f 0 es d own.0 below.0 (owned_retyped s f 0 es d own.0 own.1) below.1))
+      node_retyped f es below.0 d t (no_literal (open_scalar f d) (has_type_of_peers f && are_open f 0 es d) o)
+      (rest_retyped s (first_wish s f own.0) f 0 es d own.0 below.0 (owned_retyped s f 0 es d own.0 own.1) below.1) below.2
 
   owned_retyped : (s : LogicalType) (f : Function) (i : ℕ) (es : Trees) (d : Option Tree) (own : List (Option Tree)) → owned s f i es d ≡ Ok own → AreOwn i es d own
   owned_retyped s f i no_tree d own h = tt

@@ -1,11 +1,10 @@
 -- The steps by which a tree is settled.
-use Rattle.std.proofs.Common.{◌≡◌, ℕ, zero, suc, ◌+◌, ◌*◌, ◌<◌, ◌≤◌, List, [], ◌∷◌, ◌++◌, length, get_or, drop, drop_of_length-le, map, Result, Ok, Err, refl, sym, ap, subst, ◌∙◌, arith, Bool, true, false, ◌&&◌}
+use Rattle.std.proofs.Common.{◌≡◌, ℕ, suc, ◌+◌, ◌<◌, ◌≤◌, List, [], ◌∷◌, ◌++◌, length, get_or, drop, drop_of_length-le, Result, Ok, Err, refl, sym, ap, subst, ◌∙◌, arith, Bool, true, false, ◌&&◌}
 use Rattle.std.specs.Borrow.{Bor}
 use Rattle.vx_dtype.specs.declared.dtype.DType.{DType}
 use Rattle.vx_value.specs.Views.{type_of}
 use Rattle.std.specs.Prelude.{Option, Some, None, IfSome, option_map, ◌||◌, not, if◌then◌else◌}
 use Rattle.std.specs.Option.{is_some}
-use Rattle.std.proofs.lemmas.Bool.{and_parts, or_parts}
 use Rattle.vx_dtype.proofs.Lists.{drop_next}
 use Rattle.vx_value.specs.Columns.{Constant}
 use Rattle.vx_value.specs.Types.{LogicalType}
@@ -23,8 +22,8 @@ use Rattle.vx_tree.specs.Views.{tree_of, trees_of}
 use Rattle.vx_source_over.specs.declared.error.OverError.{OverError}
 use Rattle.vx_source_over.specs.declared.nodes.Settled.{Settled}
 use Rattle.vx_source_over.specs.Peers.{is_peer, has_type_of_peers, open_scalar, child_at, is_open, are_open}
-use Rattle.vx_source_over.specs.Reading.{Refuses, Settles}
-use Rattle.vx_source_over.specs.Settling.{Refusal, when_settled, unless, first_or, first_wish, literal_as, node_of, settled, owned, rest, wished}
+use Rattle.vx_source_over.specs.Reading.{Refuses}
+use Rattle.vx_source_over.specs.Settling.{Refusal, when_settled, unless, first_or, first_wish, literal_as, node_with, node_of, settled, owned, rest, wished}
 use Rattle.vx_source_over.specs.Views.{settled_tree, settled_trees, own_trees, none_of, first_own, said_of, wish_of, IsTyped, AreTyped, EachTyped}
 use Rattle.vx_source_over.proofs.Steps.{refuses_all, settled_parts, own_after, own_after-push, own_after-end, own_refused, rest_after, rest_after-push, rest_after-end, rest_refused}
 
@@ -255,7 +254,7 @@ module _ (s : LogicalType) (f : Function) (es : Trees) (d : Option Tree) (e : Tr
       refuses_all error (owned s f 0 es d) own_of
       (λ r k.
       let b : (has_type_of_peers f && are_open f 0 es d) ≡ false = not_both (has_type_of_peers f) _ (refused_open s f 0 es d r k) in
-      own_is (closed_node f es d bare b) ∙ ap (λ x. unless false (when_settled (λ own. when_settled (λ ts. Ok (call f ts)) (rest s (first_wish s f own) f 0 es d own)) x)) k) h
+      own_is (closed_node f es d bare b) ∙ ap (λ x. unless false (when_settled (λ own. when_settled (node_with f d) (rest s (first_wish s f own) f 0 es d own)) x)) k) h
     where
       not_both : (a b : Bool) → b ≡ false → (a && b) ≡ false
       not_both true b h = h
@@ -263,41 +262,50 @@ module _ (s : LogicalType) (f : Function) (es : Trees) (d : Option Tree) (e : Tr
 
   -- the others are settled over its peers
   over_peers : (own : List (Option Tree)) → open_scalar f d ≡ None → owned s f 0 es d ≡ Ok own → (has_type_of_peers f && none_of own) ≡ false
-      → own_of ≡ unless false (when_settled (λ ts. Ok (call f ts)) (rest s (first_wish s f own) f 0 es d own))
+      → own_of ≡ unless false (when_settled (node_with f d) (rest s (first_wish s f own) f 0 es d own))
   over_peers own bare said h =
       let b : (has_type_of_peers f && are_open f 0 es d) ≡ false = rw (← open_none s f 0 es d own said) h in
-      own_is (closed_node f es d bare b) ∙ ap (λ x. unless false (when_settled (λ own. when_settled (λ ts. Ok (call f ts)) (rest s (first_wish s f own) f 0 es d own)) x)) said
+      own_is (closed_node f es d bare b) ∙ ap (λ x. unless false (when_settled (λ own. when_settled (node_with f d) (rest s (first_wish s f own) f 0 es d own)) x)) said
 
   pub rest_is_refused : (own : List (Option Tree)) (w : Option LogicalType) (error : OverError) → open_scalar f d ≡ None → owned s f 0 es d ≡ Ok own → (has_type_of_peers f && none_of own) ≡ false → w ≡ first_wish s f own
       → Refuses error (rest s w f 0 es d own) → Refuses error own_of
   rest_is_refused own w error bare said h wish k =
       refuses_all error (rest s w f 0 es d own) own_of
-      (λ r q. over_peers own bare said h ∙ ap (λ x. unless false (when_settled (λ ts. Ok (call f ts)) (rest s x f 0 es d own))) (sym wish) ∙ ap (λ x. unless false (when_settled (λ ts. Ok (call f ts)) x)) q) k
+      (λ r q. over_peers own bare said h ∙ ap (λ x. unless false (when_settled (node_with f d) (rest s x f 0 es d own))) (sym wish) ∙ ap (λ x. unless false (when_settled (node_with f d) x)) q) k
+
+  over_rest : (own : List (Option Tree)) (w : Option LogicalType) (ts : Trees) → open_scalar f d ≡ None → owned s f 0 es d ≡ Ok own → (has_type_of_peers f && none_of own) ≡ false → w ≡ first_wish s f own
+      → rest s w f 0 es d own ≡ Ok ts → own_of ≡ unless false (node_with f d ts)
+  over_rest own w ts bare said h wish k =
+      over_peers own bare said h ∙ ap (λ x. unless false (when_settled (node_with f d) (rest s x f 0 es d own))) (sym wish) ∙ ap (λ x. unless false (when_settled (node_with f d) x)) k
+
+  -- the node itself is refused, or settled
+  pub node_refused : (own : List (Option Tree)) (w : Option LogicalType) (ts : Trees) (error : OverError) → open_scalar f d ≡ None → owned s f 0 es d ≡ Ok own → (has_type_of_peers f && none_of own) ≡ false → w ≡ first_wish s f own
+      → rest s w f 0 es d own ≡ Ok ts → Refuses error (node_with f d ts) → Refuses error own_of
+  node_refused own w ts error bare said h wish k refused = refuses_all error (node_with f d ts) own_of (λ r q. over_rest own w ts bare said h wish k ∙ ap (unless false) q) refused
 
   pub node_settled : (own : List (Option Tree)) (w : Option LogicalType) (ts : Trees) (t : Tree) → open_scalar f d ≡ None → owned s f 0 es d ≡ Ok own → (has_type_of_peers f && none_of own) ≡ false → w ≡ first_wish s f own
-      → rest s w f 0 es d own ≡ Ok ts → t ≡ call f ts → own_of ≡ Ok (Some t)
-  node_settled own w ts t bare said h wish k is =
-      over_peers own bare said h ∙ ap (λ x. unless false (when_settled (λ ts. Ok (call f ts)) (rest s x f 0 es d own))) (sym wish) ∙ ap (λ x. unless false (when_settled (λ ts. Ok (call f ts)) x)) k ∙ ap (λ x. Ok (Some x)) (sym is)
+      → rest s w f 0 es d own ≡ Ok ts → node_with f d ts ≡ Ok t → own_of ≡ Ok (Some t)
+  node_settled own w ts t bare said h wish k is = over_rest own w ts bare said h wish k ∙ ap (unless false) is
 
   -- ---- a tree without a type of its own
 
   pub literal_refused : (w : Option LogicalType) (v : Constant) (error : OverError) → Some v ≡ open_scalar f d → Refuses error (literal_as w v) → Refuses error (wished s w e d)
   literal_refused w v error h k =
       refuses_all error (literal_as w v) (wished s w e d)
-      (λ r q. ap (λ n. wished s w n d) node ∙ ap (λ x. node_of f es w x (rest s w f 0 es d [])) (sym h) ∙ ap (when_settled (λ g. Ok (call g es))) q) k
+      (λ r q. ap (λ n. wished s w n d) node ∙ ap (λ x. node_of f es d w x (rest s w f 0 es d [])) (sym h) ∙ ap (when_settled (λ g. Ok (call g es))) q) k
 
   pub literal_settled : (w : Option LogicalType) (v : Constant) (g : Function) (t : Tree) → Some v ≡ open_scalar f d → literal_as w v ≡ Ok g → t ≡ call g es → wished s w e d ≡ Ok t
   literal_settled w v g t h q is =
-      ap (λ n. wished s w n d) node ∙ ap (λ x. node_of f es w x (rest s w f 0 es d [])) (sym h) ∙ ap (when_settled (λ g. Ok (call g es))) q ∙ ap (λ x. Ok x) (sym is)
+      ap (λ n. wished s w n d) node ∙ ap (λ x. node_of f es d w x (rest s w f 0 es d [])) (sym h) ∙ ap (when_settled (λ g. Ok (call g es))) q ∙ ap (λ x. Ok x) (sym is)
+
+  wish_over : (w : Option LogicalType) → open_scalar f d ≡ None → wished s w e d ≡ when_settled (node_with f d) (rest s w f 0 es d [])
+  wish_over w bare = ap (λ n. wished s w n d) node ∙ ap (λ x. node_of f es d w x (rest s w f 0 es d [])) bare
 
   pub wish_refused : (w : Option LogicalType) (error : OverError) → open_scalar f d ≡ None → Refuses error (rest s w f 0 es d []) → Refuses error (wished s w e d)
-  wish_refused w error bare k =
-      refuses_all error (rest s w f 0 es d []) (wished s w e d)
-      (λ r q. ap (λ n. wished s w n d) node ∙ ap (λ x. node_of f es w x (rest s w f 0 es d [])) bare ∙ ap (when_settled (λ ts. Ok (call f ts))) q) k
+  wish_refused w error bare k = refuses_all error (rest s w f 0 es d []) (wished s w e d) (λ r q. wish_over w bare ∙ ap (when_settled (node_with f d)) q) k
 
-  pub wish_settled : (w : Option LogicalType) (ts : Trees) (t : Tree) → open_scalar f d ≡ None → rest s w f 0 es d [] ≡ Ok ts → t ≡ call f ts → wished s w e d ≡ Ok t
-  wish_settled w ts t bare q is =
-      ap (λ n. wished s w n d) node ∙ ap (λ x. node_of f es w x (rest s w f 0 es d [])) bare ∙ ap (when_settled (λ ts. Ok (call f ts))) q ∙ ap (λ x. Ok x) (sym is)
+  pub wish_settled : (w : Option LogicalType) (ts : Trees) → open_scalar f d ≡ None → rest s w f 0 es d [] ≡ Ok ts → wished s w e d ≡ node_with f d ts
+  wish_settled w ts bare q = wish_over w bare ∙ ap (when_settled (node_with f d)) q
 
 -- a function node over the children that it holds
 pub seen_call : (e : Expression) (f : ScalarFnRef) (all : Arc (Vec Expression Global) Global) (children : List Expression) → e ≡ Unbound.Scalar f all → children ≡ all.value.items → tree_of e ≡ call (function_of f) (trees_of children)

@@ -1,12 +1,12 @@
 -- What settling says from step to step, and the refusal that ends it.
-use Rattle.std.proofs.Common.{◌≡◌, List, [], ◌∷◌, ◌++◌, map, Result, Ok, Err, refl, sym, ap, ◌∙◌}
-use Rattle.std.specs.Prelude.{Option, Some, None, option_map, Bool, true, false}
+use Rattle.std.proofs.Common.{◌≡◌, List, [], ◌∷◌, ◌++◌, Result, Ok, Err, refl, ap}
+use Rattle.std.specs.Prelude.{Option, option_map}
 use Rattle.vx_tree.specs.Trees.{Tree, Trees, no_tree, tree}
 use Rattle.vx_source_over.specs.declared.error.OverError.{OverError}
 use Rattle.vx_source_over.specs.declared.error.OverError.TheVariants.{OutOfMemory, Unexpected, Misfit}
 use Rattle.vx_source_over.specs.declared.nodes.Settled.{Settled}
-use Rattle.vx_source_over.specs.Reading.{Refuses, Settles}
-use Rattle.vx_source_over.specs.Settling.{Refusal, when_settled, unless}
+use Rattle.vx_source_over.specs.Reading.{Refuses}
+use Rattle.vx_source_over.specs.Settling.{Refusal, when_settled}
 use Rattle.vx_source_over.specs.Views.{settled_tree, settled_trees, own_trees}
 
 -- the refusal of one part is that of the whole

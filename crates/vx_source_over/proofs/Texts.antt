@@ -1,15 +1,14 @@
 -- What a text is read as over a scope, and why it isn't.
-use Rattle.std.proofs.Common.{◌≡◌, ◌⊎◌, inl, inr, ⊎_elim, ℕ, List, Result, Ok, Err, refl, sym, ap, subst, ◌∙◌, Bool, true, false}
-use Rattle.std.specs.Prelude.{Option, Some, None, IfErr, IfOk, IsOk, IsErr, MatchOption, MatchResult}
+use Rattle.std.proofs.Common.{◌≡◌, ◌⊎◌, inl, inr, ℕ, List, Result, Ok, Err, refl, sym, ap, subst, ◌∙◌, true, false}
+use Rattle.std.specs.Prelude.{IfErr, IfOk, IsOk, IsErr, MatchResult}
 use Rattle.std.specs.Result.{is_ok}
-use Rattle.vx_dtype.specs.declared.error.VortexError.{VortexError}
 use Rattle.vx_value.specs.Types.{LogicalType}
 use Rattle.vx_fn.specs.Functions.{Typing}
 use Rattle.vx_tree.specs.Trees.{Tree, typed}
 use Rattle.vx_source_types.proofs.Reading.{read_once}
-use Rattle.vx_source_types.specs.Literals.{open_literal}
 use Rattle.vx_source_grammar.specs.ExpressionReading.{expression_step, step_by}
-use Rattle.vx_source_parser.specs.Placed.{AreReadings, tree_in}
+use Rattle.vx_source_grammar.specs.States.{open_as}
+use Rattle.vx_source_parser.specs.Placed.{AreReadings}
 use Rattle.vx_source_parser.specs.declared.whole.Placed.{Placed}
 use Rattle.vx_source_over.specs.declared.error.OverError.{OverError}
 use Rattle.vx_source_over.specs.declared.error.OverError.TheVariants.{OutOfMemory, Unexpected, Misfit}
@@ -45,8 +44,8 @@ not_memory at x h = cc
 module _ (limit : ℕ) (text : List ℕ) (s : LogicalType) where
   same_readings : {e d a b : Tree} → AreReadings limit text e d → AreReadings limit text a b → read_over s e d ≡ read_over s a b
   same_readings {d = d} {a = a} h k =
-      let p = read_once (step_by (open_literal false)) h.0 k.0 in
-      let q = read_once (step_by (open_literal true)) h.1 k.1 in
+      let p = read_once (step_by (open_as false)) h.0 k.0 in
+      let q = read_once (step_by (open_as true)) h.1 k.1 in
       ap (λ x. read_over s x d) p ∙ ap (λ x. read_over s a x) q
 
   pub stays : (e t : Tree) → ReadsAlone limit text e → IsOk (typed e s) → ReadsOver limit text s t → t ≡ e

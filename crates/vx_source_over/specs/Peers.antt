@@ -3,7 +3,7 @@ use Rattle.std.specs.Prelude.{ℕ, suc, ◌*◌, ◌%◌, ◌==◌, Bool, true, 
 use Rattle.std.specs.Option.{is_some}
 use Rattle.vx_value.specs.Columns.{Constant, constant}
 use Rattle.vx_value.specs.Equality.{equal_type}
-use Rattle.vx_fn.specs.Functions.{Function, case_when, get_item, literal, pack, select, fill_null, zip, Operation, compares, and_also, or_else, computes, binary, logical_not, between, like, is_null, is_not_null, mask, cast, starts_with, byte_length, list_contains}
+use Rattle.vx_fn.specs.Functions.{equal, Function, case_when, get_item, literal, pack, select, fill_null, zip, Operation, compares, and_also, or_else, computes, binary, logical_not, between, like, is_null, is_not_null, mask, cast, starts_with, byte_length, list_contains}
 use Rattle.vx_tree.specs.Nodes.{children_of, function_at, tree_at}
 use Rattle.vx_tree.specs.Trees.{Tree, root, call, Trees, no_tree, tree}
 
@@ -79,6 +79,11 @@ left_open None other = None
 -- the scalar of a literal that was written without a type, so that the other reading, d, gives it another one
 abbrev pub open_scalar : Function → Option Tree → Option Constant
 open_scalar f d = left_open (literal_of f) (option_and_then literal_of (option_and_then function_at d))
+
+-- whether the node stands for `in` over literals: an equality where the other reading has a search in a list
+abbrev pub is_in : Function → Option Tree → Bool
+is_in (binary (compares equal)) (Some (call list_contains es)) = true
+is_in f d = false
 
 -- what the other reading has at the child of that index
 abbrev pub child_at : Option Tree → ℕ → Option Tree

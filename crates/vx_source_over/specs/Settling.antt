@@ -4,13 +4,15 @@ use Rattle.std.specs.Prelude.{ℕ, suc, drop, Bool, true, false, List, [], ◌�
 use Rattle.std.specs.Option.{option_or}
 use Rattle.std.specs.Result.{result_ok}
 use Rattle.vx_value.specs.Columns.{Constant}
+use Rattle.vx_value.specs.Joins.{same_base}
 use Rattle.vx_value.specs.Types.{text, LogicalType, ty, atomic, list, Datum, utf8, is_null_datum, with_nullability}
 use Rattle.vx_fn.specs.Functions.{Function, literal, list_contains}
 use Rattle.vx_tree.specs.Trees.{Tree, root, call, Trees, no_tree, tree, typed}
 use Rattle.vx_source_types.specs.Literals.{plain_literal, typed_literal}
 use Rattle.vx_source_types.specs.ValueReading.{Drafted, drafted, pointed}
 use Rattle.vx_source_types.specs.declared.expectation.Expected.{Expected}
-use Rattle.vx_source_over.specs.Peers.{is_peer, open_scalar, child_at, is_open}
+use Rattle.vx_source_grammar.specs.Listing.{listed, scalars_in}
+use Rattle.vx_source_over.specs.Peers.{is_peer, open_scalar, is_in, child_at, is_open}
 
 -- why a literal has no type: it is none of the type that it should have, or it needs a type of its own
 pub data Refusal : Type 0 where
@@ -79,6 +81,37 @@ wish_for f t = Some t
 abbrev pub first_wish : LogicalType → Function → List (Option Tree) → Option LogicalType
 first_wish s f own = option_and_then (wish_for f) (first_type s own)
 
+-- ---- `in` over literals
+
+-- the first of the scalars whose type differs from that one's in more than nullability, else that one
+abbrev pub odd_one : Constant → List Constant → Constant
+odd_one c [] = c
+odd_one c (b ∷ cs) = if same_base c.type b.type then odd_one c cs else b
+
+-- the list, or that not all scalars are of the first one's type
+abbrev pub list_or_misfit : Constant → List Constant → Option Constant → Result (Option Constant) Refusal
+list_or_misfit c cs (Some l) = Ok (Some l)
+list_or_misfit c cs None = Err (misfit (odd_one c cs) c.type)
+
+-- the list of the scalars, if there are
+abbrev pub list_from : Option (List Constant) → Result (Option Constant) Refusal
+list_from (Some (c ∷ cs)) = list_or_misfit c cs (listed (c ∷ cs))
+list_from _ = Ok None
+
+-- the list of the literals around the operand, which stands behind the first of them
+abbrev pub list_around : Trees → Result (Option Constant) Refusal
+list_around (tree l (tree e ls)) = list_from (scalars_in (tree l ls))
+list_around ts = Ok None
+
+-- whether the operand is an element of the list
+abbrev pub contained : Function → Trees → Option Constant → Tree
+contained f (tree l (tree e ls)) (Some c) = call list_contains (tree (call (literal c.type c.value) no_tree) (tree e no_tree))
+contained f ts _ = call f ts
+
+-- the node of the function over what is settled below it: for `in` over literals a search in their list
+abbrev pub node_with : Function → Option Tree → Trees → Result Tree Refusal
+node_with f d ts = if is_in f d then when_settled (λ l. Ok (contained f ts l)) (list_around ts) else Ok (call f ts)
+
 -- ---- a tree
 
 -- nothing where it waits, and else what was settled
@@ -93,16 +126,16 @@ first_or (None ∷ own) said = said
 first_or (Some t ∷ own) said = Ok t
 
 -- the node over what is settled below it, or the literal that it is
-abbrev pub node_of : Function → Trees → Option LogicalType → Option Constant → Result Trees Refusal → Result Tree Refusal
-node_of f es w (Some c) below = when_settled (λ g. Ok (call g es)) (literal_as w c)
-node_of f es w None below = when_settled (λ ts. Ok (call f ts)) below
+abbrev pub node_of : Function → Trees → Option Tree → Option LogicalType → Option Constant → Result Trees Refusal → Result Tree Refusal
+node_of f es d w (Some c) below = when_settled (λ g. Ok (call g es)) (literal_as w c)
+node_of f es d w None below = when_settled (node_with f d) below
 
 abbrev mutual
   -- a tree that has a type of its own. First its peers with a type of their own are settled; what the first of them with a
   -- type wishes is wished of the other peers
   pub settled : LogicalType → Tree → Option Tree → Result Tree Refusal
   settled s root d = Ok root
-  settled s (call f es) d = when_settled (λ own. when_settled (λ ts. Ok (call f ts)) (rest s (first_wish s f own) f 0 es d own)) (owned s f 0 es d)
+  settled s (call f es) d = when_settled (λ own. when_settled (node_with f d) (rest s (first_wish s f own) f 0 es d own)) (owned s f 0 es d)
 
   -- of the children from that index on the peers with a type of their own, from left to right, and nothing of the others
   pub owned : LogicalType → Function → ℕ → Trees → Option Tree → Result (List (Option Tree)) Refusal
@@ -120,7 +153,7 @@ abbrev mutual
   -- a tree without a type of its own: its literals take the type that is wished, if one is
   pub wished : LogicalType → Option LogicalType → Tree → Option Tree → Result Tree Refusal
   wished s w root d = Ok root
-  wished s w (call f es) d = node_of f es w (open_scalar f d) (rest s w f 0 es d [])
+  wished s w (call f es) d = node_of f es d w (open_scalar f d) (rest s w f 0 es d [])
 
 -- the tree of two readings of a text over a scope of type s
 abbrev pub read_over : LogicalType → Tree → Tree → Result Tree Refusal

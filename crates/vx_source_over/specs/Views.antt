@@ -1,5 +1,5 @@
 -- What the steps of settling a tree hold. No public contract names this file.
-use Rattle.std.specs.Prelude.{◌≡◌, ℕ, ◌==◌, length, Bool, true, false, List, [], ◌∷◌, Option, Some, None, Result, Ok, Err, map, option_map, if◌then◌else◌}
+use Rattle.std.specs.Prelude.{◌≡◌, ℕ, ◌==◌, length, Bool, true, false, List, [], ◌∷◌, Option, Some, None, Result, map, option_map, if◌then◌else◌}
 use Rattle.std.specs.Borrow.{Bor}
 use Rattle.vx_dtype.specs.declared.dtype.DType.{DType}
 use Rattle.vx_value.specs.Columns.{Constant}
@@ -7,7 +7,7 @@ use Rattle.vx_value.specs.Types.{LogicalType}
 use Rattle.vx_fn.specs.Functions.{Function, literal, fn_type}
 use Rattle.vx_value.specs.Views.{type_of}
 use Rattle.std.specs.Result.{result_ok}
-use Rattle.vx_tree.specs.Trees.{Tree, Trees, typed}
+use Rattle.vx_tree.specs.Trees.{Tree, Trees}
 use Rattle.vx_tree.specs.Views.{tree_of, trees_from}
 use Rattle.vx_source_types.specs.declared.error.ParseError.{ParseError}
 use Rattle.vx_source_types.specs.declared.error.ParseError.TheVariants.{OutOfMemory as NoMemory, Unexpected as Stopped}

@@ -24,7 +24,8 @@ pub enum OverError {
         expected: Expected,
     },
     /// The literal in these bytes of the text is none of the type that it takes from what it stands beside. The scalar is
-    /// what was written, before it has a type: [`is_pointed`](crate::is_pointed) tells numbers with a point.
+    /// what was written, before it has a type: [`is_pointed`](crate::is_pointed) tells numbers with a point. Or it is a
+    /// literal of an `in` that has a type, which isn't that of the first one.
     Misfit {
         start: usize,
         end: usize,

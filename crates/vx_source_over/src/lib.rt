@@ -6,6 +6,7 @@ mod laws;
 mod literals;
 mod nodes;
 mod peers;
+mod searching;
 mod settle;
 mod whole;
 mod written;

@@ -3,7 +3,7 @@ ghost use Rattle.std.specs.Prelude.{◌≡◌, ◌++◌, [], IfOk, IfErr, OnOk, 
 ghost use Rattle.std.specs.Result.{result_ok};
 ghost use Rattle.vx_fn.specs.Functions.{fn_type};
 ghost use Rattle.vx_fn.specs.Views.{function_of};
-ghost use Rattle.vx_tree.specs.Trees.{root, call};
+ghost use Rattle.vx_tree.specs.Trees.{root, call, no_tree};
 ghost use Rattle.vx_tree.specs.Views.{tree_of, trees_of};
 ghost use Rattle.vx_value.specs.Types.{LogicalType};
 ghost use Rattle.vx_value.specs.Views.{type_of};
@@ -139,6 +139,19 @@ pub(crate) fn retyped(scalar: Scalar, children: &Arc<Vec<Expression>>) -> Result
     let dtype = literal_dtype(&scalar, children.as_slice())?;
     let tree = literal_node(scalar, children.clone()?);
     Ok(Settled { tree, dtype })
+}
+
+// The literal of the scalar.
+pub(crate) fn literal_alone(alloc: Global, scalar: Scalar) -> Result<Settled, AllocError>
+    ensures tree { IfOk result (λ x. settled_tree x ≡ call (literal_with scalar) no_tree) }
+    ensures typed { (s : LogicalType) → IfOk result (IsTyped s) }
+{
+    let dtype = scalar.dtype().clone()?;
+    let children = Arc::new(alloc, Vec::new(alloc))?;
+    Ok(Settled {
+        tree: literal_node(scalar, children),
+        dtype: Some(dtype),
+    })
 }
 
 // The type of a literal that has no children.

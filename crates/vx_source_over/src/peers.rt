@@ -3,7 +3,7 @@ ghost use Rattle.std.specs.Prelude.{◌≡◌, ℕ, option_map};
 ghost use Rattle.std.specs.Option.{is_some};
 ghost use Rattle.vx_fn.specs.Views.{function_of, operation_of};
 ghost use Rattle.vx_tree.specs.Views.{tree_of};
-ghost use Rattle.vx_source_over.specs.Peers.{is_branch, is_peer, is_arithmetic, has_type_of_peers, literal_of, open_scalar, child_at};
+ghost use Rattle.vx_source_over.specs.Peers.{is_branch, is_peer, is_arithmetic, has_type_of_peers, is_in, literal_of, open_scalar, child_at};
 
 use vx_fn::{Operator, ScalarFnRef};
 use vx_source_parser::Places;
@@ -143,6 +143,19 @@ pub(crate) fn is_untyped(scalar_fn: &ScalarFnRef, other: Option<&Expression>) ->
     ensures { result ≡ is_some (open_scalar (function_of scalar_fn.now) (option_map (λ d. tree_of d.now) other.entry)) }
 {
     open_scalar(scalar_fn, other).is_some()
+}
+
+// Whether the node stands for `in` over literals: an equality where the other reading has a search in a list.
+pub(crate) fn is_in(scalar_fn: &ScalarFnRef, other: Option<&Expression>) -> bool
+    ensures { result ≡ is_in (function_of scalar_fn.now) (option_map (λ d. tree_of d.now) other.entry) }
+{
+    let ScalarFnRef::Binary(Operator::Eq) = scalar_fn else {
+        return false;
+    };
+    match other {
+        Some(node) => matches!(node.as_scalar(), Some(ScalarFnRef::ListContains(_))),
+        None => false,
+    }
 }
 
 // The scalar of a literal.

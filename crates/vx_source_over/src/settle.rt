@@ -12,10 +12,11 @@ ghost use Rattle.vx_source_over.specs.declared.error.OverError.TheVariants.{OutO
 
 use crate::OverError;
 use crate::literals::literal_as;
-use crate::nodes::{Settled, are_none, first_type, node_over, retyped, scope_root};
+use crate::nodes::{Settled, are_none, first_type, retyped, scope_root};
 use crate::peers::{
     Beside, beside_child, bytes_of, has_type_of_peers, is_peer, is_untyped, open_scalar,
 };
+use crate::searching::node_with;
 use std::alloc::Global;
 use std::vec::IntoIter;
 use vx_dtype::DType;
@@ -80,7 +81,7 @@ fn own(over: Over, e: &Expression, beside: Beside) -> Result<Option<Settled>, Ov
     }
     let begun = with_wish(scalar_fn, own)?;
     let below = rest(over, scalar_fn, children.as_slice(), beside, begun)?;
-    Ok(Some(node_over(over.alloc, scalar_fn, below)?))
+    Ok(Some(node_with(over.alloc, scalar_fn, beside, below)?))
 }
 
 // Of the children the peers that have a type of their own, and nothing of the others.
@@ -213,7 +214,7 @@ fn wished(
     }
     let begun = wishing(over.alloc, wish)?;
     let below = rest(over, scalar_fn, children.as_slice(), beside, begun)?;
-    node_over(over.alloc, scalar_fn, below)
+    node_with(over.alloc, scalar_fn, beside, below)
 }
 
 // Nothing is settled yet, and that type is wished.

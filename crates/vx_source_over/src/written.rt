@@ -67,10 +67,10 @@ pub fn read_open(alloc: Global, text: &str, limit: usize) -> Result<Written<'_>,
 /// `"2024-01-31"::date`, and `"12.50"` beside a `decimal(10, 2)` is 1250 units. A number beside a decimal is that number, as
 /// its text would be, and beside a floating-point number the nearest one.
 ///
-/// They take it from the other side of a comparison, of arithmetic, `and` and `or`, of BETWEEN and of `fill_null`, and from
-/// the other branches of CASE, `if` and `zip`: from the first of these that has a type of its own, else from what is around
-/// them. Refuses one that is none of that type, with the type, and one that needs a type and finds none, as `parse` does,
-/// and with `OutOfMemory`. Time is linear in the nodes.
+/// They take it from the other side of a comparison, of arithmetic, `and` and `or`, of BETWEEN, of `in` and of `fill_null`,
+/// and from the other branches of CASE, `if` and `zip`: from the first of these that has a type of its own, else from what is
+/// around them. The items of `in` are then one list, if they are literals. Refuses one that is none of that type, with the
+/// type, and one that needs a type and finds none, as `parse` does, and with `OutOfMemory`. Time is linear in the nodes.
 pub fn over(alloc: Global, written: Written<'_>, scope: &DType) -> Result<Placed, OverError>
     ensures reads { (limit : ℕ) (text : List ℕ) → IsWritten limit text written.entry → IfOk result (λ p. ReadsOver limit text (type_of scope.now) (tree_in p)) }
     ensures refuses { (limit : ℕ) (text : List ℕ) → IsWritten limit text written.entry → IfErr result (RefusesOver limit text (type_of scope.now)) }

@@ -1,5 +1,5 @@
 -- What follows an operand where the token is a number, and what begins with a minus.
-use Rattle.std.proofs.Common.{◌≡◌, ℕ, ◌<◌, refl, Bool, true, false, List, [], ◌∷◌, length, get_or, Option, Some, None, drop, ◌==◌, if◌then◌else◌, arith, rules}
+use Rattle.std.proofs.Common.{◌≡◌, ℕ, ◌<◌, refl, Bool, true, false, List, [], ◌∷◌, length, get_or, Some, None, drop, ◌==◌, if◌then◌else◌, arith, rules}
 use Rattle.std.proofs.lemmas.Bool.{eqb-true}
 use Rattle.vx_tree.specs.Trees.{Tree}
 use Rattle.vx_source_types.specs.Tokens.{Lexeme, number as numeral, point, next}

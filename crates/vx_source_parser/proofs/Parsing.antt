@@ -7,14 +7,12 @@ use Rattle.vx_tree.specs.Trees.{Tree}
 use Rattle.vx_source_types.specs.Reading.{Goes, more, Step, Leads, stops_at, IsRead}
 use Rattle.vx_source_types.proofs.Reading.{forward}
 use Rattle.vx_source_types.specs.ScalarReading.{ParsesWithin}
-use Rattle.vx_source_grammar.specs.Beginning.{PlainReading}
 use Rattle.vx_source_grammar.specs.ExpressionReading.{expression_step, step_by}
-use Rattle.vx_source_grammar.specs.States.{ExpressionState, expression_start}
+use Rattle.vx_source_grammar.specs.States.{Reading, open_as, ExpressionState, expression_start}
 use Rattle.vx_source_writer.specs.SourceTexts.{source}
 use Rattle.vx_source_laws.specs.Nesting.{nesting}
 use Rattle.vx_source_laws.specs.SpelledTrees.{IsSpelledTree}
 use Rattle.vx_source_laws.proofs.Again.{again}
-use Rattle.vx_source_types.specs.Literals.{open_literal}
 use Rattle.vx_source_operands.specs.OperandViews.{operand_of}
 use Rattle.vx_source_operands.specs.Places.{ReadsUpTo}
 use Rattle.vx_source_parser.specs.Placed.{StopsOpen}
@@ -27,16 +25,16 @@ stopped_up_to step view other OutOfMemory from at h p q l = tt
 stopped_up_to step {bs = bs} view other (Unexpected place e) from at h p q l = (omega (arith, q.0), (skip false (drop from bs), stops_at h p q.1))
 
 -- a token that is a part of an expression takes some of the text
-pub takes_some : (plain : PlainReading) (s u : ExpressionState) (bs : List ℕ) (from at to : ℕ) (x : Lexeme) (cs : List ℕ) → first (drop from bs) ≡ (x, cs) → drop at bs ≡ skip false (drop from bs) → from ≤ at → at ≤ to
-    → (at < length bs → at < to) → step_by plain s x ≡ Ok (more u) → from < to
-takes_some plain s u bs from at to x cs p q h k l e =
-    forward bs from at to x cs p q h k l (λ n. end_stops plain s u (subst (λ y. step_by plain s y ≡ Ok (more u)) n e))
+pub takes_some : (reading : Reading) (s u : ExpressionState) (bs : List ℕ) (from at to : ℕ) (x : Lexeme) (cs : List ℕ) → first (drop from bs) ≡ (x, cs) → drop at bs ≡ skip false (drop from bs) → from ≤ at → at ≤ to
+    → (at < length bs → at < to) → step_by reading s x ≡ Ok (more u) → from < to
+takes_some reading s u bs from at to x cs p q h k l e =
+    forward bs from at to x cs p q h k l (λ n. end_stops reading s u (subst (λ y. step_by reading s y ≡ Ok (more u)) n e))
 
 -- the source text of an expression is read as it
 pub written_is_read : (e : Tree) (room : ℕ) (bs : List ℕ) → IsSpelledTree e → nesting e ≤ room → bs ≡ source e → IsRead expression_step (expression_start room) bs e
 written_is_read e room bs w h is = subst (λ x. IsRead expression_step (expression_start room) x e) (sym is) (again e room w h)
 
 -- one of the readings of a text stops where reading it so does
-pub stops_open : (other : Bool) (limit : ℕ) (text : List ℕ) (error : ParseError) → ParsesWithin (step_by (open_literal other)) (expression_start limit) text operand_of (Err error) → StopsOpen limit text error
+pub stops_open : (other : Bool) (limit : ℕ) (text : List ℕ) (error : ParseError) → ParsesWithin (step_by (open_as other)) (expression_start limit) text operand_of (Err error) → StopsOpen limit text error
 stops_open other limit text OutOfMemory h = tt
 stops_open other limit text (Unexpected at x) h = (h.0, (other, h.1.0, h.1.1))

@@ -35,9 +35,9 @@ fn after_bracketed(
     };
     match frame {
         Frame::Paren(bracket) => after_enclosed(frames, operand, bracket, context.found),
-        Frame::Members(lhs, items, bracket) => {
+        Frame::Members(plain, lhs, items, bracket) => {
             let items = with_operand(items, operand)?;
-            after_member(context, frames, lhs, items, bracket)
+            after_member(context, plain, frames, lhs, items, bracket)
         }
         Frame::Call(callee, children, bracket) => {
             let children = with_operand(children, operand)?;

@@ -2,7 +2,7 @@
 ghost use Rattle.vx_source_types.specs.Views.{lexeme_of};
 ghost use Rattle.vx_source_grammar.specs.ExpressionReading.{step_by};
 ghost use Rattle.vx_source_operands.specs.Places.{ReadsUpTo};
-ghost use Rattle.vx_source_operands.specs.PlainViews.{plain_by};
+ghost use Rattle.vx_source_operands.specs.PlainViews.{reading_of};
 ghost use Rattle.vx_source_operands.specs.OperandViews.{reader_of, step_of};
 
 use crate::after::{after_is, after_is_not, after_loose, after_not, after_tight};
@@ -16,14 +16,14 @@ use std::alloc::Global;
 use vx_source_operands::{Context, ExpressionReader, ExpressionStep, Mode, PlainValues};
 use vx_source_types::{Found, ParseError};
 
-// What the token makes of the expression, where values without a type are read so.
+// What the token makes of the expression, where values that no type follows are read so.
 pub(crate) fn step(
     alloc: Global,
     plain: PlainValues,
     reader: ExpressionReader,
     token: Found,
 ) -> Result<ExpressionStep, ParseError>
-    ensures reads { ReadsUpTo token.at step_of result (step_by (plain_by plain) (reader_of reader) (lexeme_of token.token)) }
+    ensures reads { ReadsUpTo token.at step_of result (step_by (reading_of plain) (reader_of reader) (lexeme_of token.token)) }
 {
     let ExpressionReader { frames, mode, room } = reader;
     let context = Context {
@@ -57,7 +57,7 @@ pub(crate) fn step(
         Mode::NotLike(e) => after_not(context, frames, e),
         Mode::Is(e) => after_is(context, frames, e),
         Mode::IsNot(e) => after_is_not(context, frames, e),
-        Mode::In(e) => members(context, frames, e),
+        Mode::In(e) => members(context, plain, frames, e),
         Mode::Case => case(context, frames),
         Mode::Plus(start) => begin_plus(context, frames, start),
         Mode::Minus(start) => begin_minus(context, plain, frames, start),

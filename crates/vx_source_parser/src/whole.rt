@@ -7,11 +7,10 @@ ghost use Rattle.vx_source_types.specs.Tokens.{end};
 ghost use Rattle.vx_source_types.specs.Views.{lexeme_of};
 ghost use Rattle.vx_source_types.specs.Reading.{IsRead, Gives, ReadsAt, whole_text};
 ghost use Rattle.vx_source_types.specs.ScalarReading.{ParsesWithin};
-ghost use Rattle.vx_source_types.specs.Literals.{open_literal};
 ghost use Rattle.vx_source_grammar.specs.ExpressionReading.{expression_step, step_by};
-ghost use Rattle.vx_source_grammar.specs.States.{expression_start};
+ghost use Rattle.vx_source_grammar.specs.States.{expression_start, open_as};
 ghost use Rattle.vx_source_operands.specs.OperandViews.{operand_of};
-ghost use Rattle.vx_source_operands.specs.PlainViews.{plain_by};
+ghost use Rattle.vx_source_operands.specs.PlainViews.{reading_of};
 ghost use Rattle.vx_source_writer.specs.SourceTexts.{source};
 ghost use Rattle.vx_source_laws.specs.Nesting.{nesting};
 ghost use Rattle.vx_source_laws.specs.SpelledTrees.{IsSpelledTree};
@@ -102,8 +101,8 @@ fn with_second(
     limit: usize,
 ) -> Result<Readings, ParseError>
     ensures first { IfOk result (λ both. both.first ≡ first) }
-    ensures second { IfOk result (λ both. IsRead (step_by (open_literal true)) (expression_start limit) text.now (tree_of both.second)) }
-    ensures complete { (d : Tree) → IsRead (step_by (open_literal true)) (expression_start limit) text.now d → IfErr result (λ x. x ≡ OutOfMemory) }
+    ensures second { IfOk result (λ both. IsRead (step_by (open_as true)) (expression_start limit) text.now (tree_of both.second)) }
+    ensures complete { (d : Tree) → IsRead (step_by (open_as true)) (expression_start limit) text.now d → IfErr result (λ x. x ≡ OutOfMemory) }
     ensures stops { IfErr result (StopsOpen limit text.now) }
 {
     let Operand { tree, .. } = read(alloc, PlainValues::Open(true), text, limit)?;
@@ -113,7 +112,7 @@ fn with_second(
 
 // Reads the text token by token, values without a type as said.
 fn read(alloc: Global, plain: PlainValues, text: &str, limit: usize) -> Result<Operand, ParseError>
-    ensures { ParsesWithin (step_by (plain_by plain)) (expression_start limit) text.now operand_of result }
+    ensures { ParsesWithin (step_by (reading_of plain)) (expression_start limit) text.now operand_of result }
 {
     let mut reader = ExpressionReader::new(alloc, limit);
     let mut from = 0;

@@ -1,4 +1,4 @@
-use Rattle.std.proofs.Common.{◌≡◌, ◌∙◌, ap, map, length, rules, arith}
+use Rattle.std.proofs.Common.{◌≡◌, ◌∙◌, ap, map, length, arith}
 use Rattle.vx_fn.specs.Views.{function_of}
 use Rattle.vx_value.specs.Views.{type_of}
 use Rattle.vx_tree.specs.Trees.{call}

@@ -1,4 +1,4 @@
-use Rattle.std.proofs.Common.{◌≡◌, ◌∙◌, Some, Ok, Err, ap, sym, subst, arith, rules, true, false, ◌&&◌}
+use Rattle.std.proofs.Common.{◌≡◌, ◌∙◌, Ok, Err, ap, sym, subst, arith, rules, true, false, ◌&&◌}
 use Rattle.std.proofs.lemmas.Grind.{common_steps}
 use Rattle.std.specs.Prelude.{None, option_map}
 use Rattle.vx_fn.specs.Views.{function_of}
@@ -7,9 +7,9 @@ use Rattle.vx_tree.specs.Views.{tree_of, trees_of}
 use Rattle.vx_tree.proofs.Seen.{item_smaller}
 use Rattle.vx_source_over.specs.Peers.{is_peer, has_type_of_peers, open_scalar, child_at, is_open}
 use Rattle.vx_source_over.specs.Reading.{Settles, Refuses}
-use Rattle.vx_source_over.specs.Settling.{unless, settled, owned, rest, wished, first_type}
+use Rattle.vx_source_over.specs.Settling.{unless, settled, owned, rest}
 use Rattle.vx_source_over.specs.Views.{AreTyped, EachTyped, none_of, other_of, own_trees, said_of, settled_tree, settled_trees, wish_of}
-use Rattle.vx_source_over.proofs.Settles.{seen_call, none_there, peer_refused, node_waits, rest_is_refused, node_settled, peer_said, other_said, own_next, own_stops, own_end, typed_push, one_typed, lent_wish, rest_next, rest_stops, rest_end, child_said, said_first, said_then, typed_first, typed_behind, each_typed_push}
+use Rattle.vx_source_over.proofs.Settles.{seen_call, none_there, peer_refused, node_waits, rest_is_refused, node_refused, node_settled, peer_said, other_said, own_next, own_stops, own_end, typed_push, one_typed, lent_wish, rest_next, rest_stops, rest_end, child_said, said_first, said_then, typed_first, typed_behind, each_typed_push}
 use Rattle.vx_source_over.proofs.settle.+settle.Goals as goal
 
 pub own-returns-in_err-own-clause-tree : goal.own-returns-in_err-own-clause-tree
@@ -59,6 +59,28 @@ own-returns-in_err-below-clause-tree t c =
     subst (λ x. Settles (option_map settled_tree) x (unless (is_open e d) (settled s e d))) (sym is)
     (rest_is_refused s f es d e seen (own_trees below) w r bare c.in_ok-own.ensures.trees waits_not (c.in_ok-begun.ensures.wish s c.in_ok-own.ensures.typed) refused)
 
+pub own-returns-in_err-node_with-clause-tree : goal.own-returns-in_err-node_with-clause-tree
+own-returns-in_err-node_with-clause-tree t c =
+    let s = type_of c.args.over.scope.now in
+    let e = tree_of c.args.e.now in
+    let d = other_of c.args.beside in
+    let f = function_of c.in-Scalar.scalar_fn in
+    let es = trees_of c.as_slice.result.now in
+    let seen = seen_call _ _ _ c.as_slice.result.now c.in-Scalar.is (c.as_slice.ensures.value ∙ ap (λ v. v.items) c.deref.ensures) in
+    let bare = none_there (open_scalar f d) (sym c.is_untyped.ensures ∙ c.if-is_untyped.false) in
+    let below = c.in_ok-own.own.items in
+    let tested = ap (λ xs. has_type_of_peers f && none_of (own_trees xs)) c.as_slice-2.ensures.value in
+    let same : c.as_slice-3.result.now ≡ c.as_slice.result.now = (c.as_slice-3.ensures.value ∙ ap (λ v. v.items) c.deref-2.ensures) ∙ sym (c.as_slice.ensures.value ∙ ap (λ v. v.items) c.deref.ensures) in
+    let w = option_map type_of c.in_ok-begun.begun.wish in
+    let begun : own_trees c.in_ok-begun.begun.own.items ≡ own_trees below = ap (λ v. own_trees v.items) c.in_ok-begun.ensures.own in
+    let waits_not = sym tested ∙ sym c.all_wait.ensures ∙ c.if-all_wait.false in
+    let ts = settled_trees c.in_ok-below.below.items in
+    let all = subst (λ o. rest s w f 0 es d o ≡ Ok ts) begun (subst (λ xs. rest s w f 0 (trees_of xs) d (own_trees c.in_ok-begun.begun.own.items) ≡ Ok ts) same c.in_ok-below.ensures.trees) in
+    let r = c.in_err-node_with.field-0.0 in
+    let is : c.from_residual-in_err-node_with.result ≡ Err r = search rules in
+    subst (λ x. Settles (option_map settled_tree) x (unless (is_open e d) (settled s e d))) (sym is)
+    (node_refused s f es d e seen (own_trees below) w ts r bare c.in_ok-own.ensures.trees waits_not (c.in_ok-begun.ensures.wish s c.in_ok-own.ensures.typed) all c.in_err-node_with.ensures.tree)
+
 pub own-returns-clause-tree : goal.own-returns-clause-tree
 own-returns-clause-tree t c =
     let s = type_of c.args.over.scope.now in
@@ -76,7 +98,7 @@ own-returns-clause-tree t c =
     let waits_not = sym tested ∙ sym c.all_wait.ensures ∙ c.if-all_wait.false in
     let ts = settled_trees c.in_ok-below.below.items in
     let all = subst (λ o. rest s w f 0 es d o ≡ Ok ts) begun (subst (λ xs. rest s w f 0 (trees_of xs) d (own_trees c.in_ok-begun.begun.own.items) ≡ Ok ts) same c.in_ok-below.ensures.trees) in
-    node_settled s f es d e seen (own_trees below) w ts (settled_tree c.in_ok-node_over.field-0) bare c.in_ok-own.ensures.trees waits_not (c.in_ok-begun.ensures.wish s c.in_ok-own.ensures.typed) all c.in_ok-node_over.ensures.tree
+    node_settled s f es d e seen (own_trees below) w ts (settled_tree c.in_ok-node_with.field-0) bare c.in_ok-own.ensures.trees waits_not (c.in_ok-begun.ensures.wish s c.in_ok-own.ensures.typed) all c.in_ok-node_with.ensures.tree
 
 pub own_all-own-requires : goal.own_all-own-requires
 own_all-own-requires t c =

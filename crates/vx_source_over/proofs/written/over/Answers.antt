@@ -1,7 +1,7 @@
-use Rattle.std.proofs.Common.{◌≡◌, ◌∙◌, ℕ, List, sym, subst}
+use Rattle.std.proofs.Common.{◌∙◌, sym, subst}
 use Rattle.vx_value.specs.Views.{type_of}
 use Rattle.vx_source_parser.specs.Placed.{tree_in}
-use Rattle.vx_source_over.specs.Reading.{IsWritten, ReadsOrRefuses, ReadsOver, RefusesOver}
+use Rattle.vx_source_over.specs.Reading.{IsWritten, ReadsOver, RefusesOver}
 use Rattle.vx_source_over.proofs.Texts.{typed_alone, same_text, settles, unique, completes, if_reads, if_refuses}
 use Rattle.vx_source_over.proofs.written.over.Goals as goal
 
