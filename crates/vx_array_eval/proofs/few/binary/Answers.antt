@@ -1,4 +1,4 @@
-use Rattle.std.proofs.Common.{◌≡◌, ◌∙◌, ap, Ok, [], ◌∷◌}
+use Rattle.std.proofs.Common.{◌≡◌, ap, Ok, [], ◌∷◌}
 use Rattle.vx_fn.specs.Values.{compared, kleene_and, kleene_or}
 use Rattle.vx_fn.specs.Views.{operation_of}
 use Rattle.vx_array.specs.Rows.{lanes_rows}
