@@ -20,7 +20,6 @@ use vx_tree::{BoundExpression, DType, Expression, FieldName};
 /// What becomes of the expression over rows of the schema's type: its source text, type and tree; what
 /// each pass makes of it, where that changes it; and of its plan the tree, the paths that are read,
 /// the root and the partitions. Fails as [`plan_page`](crate::planned::plan_page) does.
-#[tactic(auto, using(crate::proofs::Told::told))]
 pub fn explanation_page(
     alloc: Global,
     expression: &str,

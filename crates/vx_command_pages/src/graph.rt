@@ -11,7 +11,6 @@ use vx_tree::{BoundExpression, ChildName};
 /// The typed tree as a graph in Graphviz's language: a line for each node, which shows its function
 /// and its type, and one for each edge, with the name of the child. Fails as
 /// [`type_page`](crate::types::type_page) does.
-#[tactic(auto, using(crate::proofs::Told::told))]
 pub fn graph_page(alloc: Global, expression: &str, schema: &str) -> Result<String, CommandError>
     ensures { IfErr result (λ c. IsCommandError expression.now schema.now c) }
 {

@@ -28,7 +28,6 @@ use vx_value::FieldPathSet;
 /// The plan of the expression over rows of the schema's type, by the folding rules, as JSON on one line. Fails at what
 /// can't be read, at the expression first; else at the first refusal, with its place; and for want of
 /// memory.
-#[tactic(auto, using(crate::proofs::Told::told))]
 pub fn plan_page(alloc: Global, expression: &str, schema: &str) -> Result<String, CommandError>
     ensures prints { IfOk result (λ page. IsPlanPage expression.now schema.now (string_bytes page)) }
     ensures error { IfErr result (λ c. IsCommandError expression.now schema.now c) }

@@ -94,7 +94,6 @@ struct Written {
 }
 
 // The query that the texts say, its plan by the folding rules, and the plan's statement.
-#[tactic(auto, using(crate::proofs::Told::told))]
 fn plan_written(alloc: Global, query: &SqlQuery<'_>) -> Result<Written, SqlError>
     ensures read { IfOk result (λ w. ReadsAs query.now.expression.now (type_of w.read.scope.value) (tree_of w.read.placed.value.expression)) }
     ensures scope { IfOk result (λ w. ReadsType query.now.schema.now (type_of w.read.scope.value)) }

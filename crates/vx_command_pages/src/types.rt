@@ -17,7 +17,6 @@ use vx_tree::DType;
 
 /// The type of the expression over rows of the schema's type, on one line. Fails at what can't be
 /// read, at the expression first; else at the first refusal, with its place; and for want of memory.
-#[tactic(auto, using(crate::proofs::Told::told))]
 pub fn type_page(alloc: Global, expression: &str, schema: &str) -> Result<String, CommandError>
     ensures prints { IfOk result (λ page. IsTypePage expression.now schema.now (string_bytes page)) }
     ensures error { IfErr result (λ c. IsCommandError expression.now schema.now c) }

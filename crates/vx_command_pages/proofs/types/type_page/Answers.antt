@@ -1,0 +1,8 @@
+use Rattle.vx_value.specs.Views.{type_of}
+use Rattle.vx_command_pages.proofs.Told.{handed_on}
+use Rattle.vx_command_pages.proofs.types.type_page.Goals as goal
+
+pub returns-clause-error : goal.returns-clause-error
+returns-clause-error c =
+    handed_on c.args.expression.now c.args.schema.now c.deref.result.now (type_of c.deref-2.result.now) c.type_line.result
+    (rw (c.deref.ensures, c.deref-2.ensures) c.in_ok-query.ensures.read) (rw c.deref-2.ensures c.in_ok-query.ensures.scope) c.type_line.ensures.error c.type_line.ensures.place
