@@ -137,11 +137,16 @@ pub enum CollectKind {
 impl Kind {
     /// The kind of that name.
     pub fn named(name: &str) -> Option<Kind> {
-        of_source(name)
-            .map(Kind::OfSource)
-            .or_else(|| of_bound(name).map(Kind::OfBound))
-            .or_else(|| of_two(name).map(Kind::OfTwo))
-            .or_else(|| of_words(name).map(Kind::OfWords))
+        if let Some(kind) = named(name, SOURCE) {
+            return Some(Kind::OfSource(kind));
+        }
+        if let Some(kind) = named(name, PAIRS) {
+            return Some(Kind::OfTwo(kind));
+        }
+        if let Some(kind) = named(name, WORDS) {
+            return Some(Kind::OfWords(kind));
+        }
+        BoundKind::named(name).map(Kind::OfBound)
     }
 
     /// How many columns it has before the answer that is wanted.
@@ -180,130 +185,129 @@ impl Kind {
     }
 }
 
-fn of_source(name: &str) -> Option<SourceKind> {
-    Some(match name {
-        "text" => SourceKind::Text,
-        "text length" => SourceKind::TextLength,
-        "tree text" => SourceKind::TreeText,
-        "tree text length" => SourceKind::TreeTextLength,
-        "type" => SourceKind::Type,
-        "built" => SourceKind::Built,
-        "built bound" => SourceKind::BuiltBound,
-        "depth" => SourceKind::Depth,
-        "any query" => SourceKind::AnyQuery,
-        "planned" => SourceKind::Planned,
-        "planned paths" => SourceKind::PlannedPaths,
-        "planned split" => SourceKind::PlannedSplit,
-        "scan" => SourceKind::Scan,
-        "selected" => SourceKind::Selected,
-        _ => return None,
-    })
-}
-
-fn of_bound(name: &str) -> Option<BoundKind> {
-    Some(match name {
-        "source" => BoundKind::Source,
-        "rows" => BoundKind::Rows,
-        "pruned" => BoundKind::Pruned,
-        _ => {
-            return of_rewritten(name)
-                .map(BoundKind::OfRewritten)
-                .or_else(|| of_analysis(name).map(BoundKind::OfAnalysis))
-                .or_else(|| of_fields(name).map(BoundKind::OfFields));
+impl BoundKind {
+    fn named(name: &str) -> Option<BoundKind> {
+        if let Some(kind) = named(name, REWRITTEN) {
+            return Some(BoundKind::OfRewritten(kind));
         }
-    })
+        if let Some(kind) = named(name, ANALYSIS) {
+            return Some(BoundKind::OfAnalysis(kind));
+        }
+        if let Some(kind) = named(name, FIELDS) {
+            return Some(BoundKind::OfFields(kind));
+        }
+        named(name, BOUND)
+    }
 }
 
-fn of_rewritten(name: &str) -> Option<RewrittenKind> {
-    Some(match name {
-        "validity" => RewrittenKind::Validity(Told::Text),
-        "validity rows" => RewrittenKind::Validity(Told::Rows),
-        "optimized" => RewrittenKind::Optimized(Told::Text),
-        "optimized rows" => RewrittenKind::Optimized(Told::Rows),
-        "optimized or none" => RewrittenKind::OptimizedOrNone,
-        "optimized at root" => RewrittenKind::OptimizedAtRoot,
-        "by branches" => RewrittenKind::ByBranches(Told::Text),
-        "by branches rows" => RewrittenKind::ByBranches(Told::Rows),
-        "by branches or none" => RewrittenKind::ByBranchesOrNone,
-        "folded" => RewrittenKind::Folded(Told::Text),
-        "folded rows" => RewrittenKind::Folded(Told::Rows),
-        "folded or none" => RewrittenKind::FoldedOrNone,
-        "fused" => RewrittenKind::Fused(Told::Text),
-        "fused rows" => RewrittenKind::Fused(Told::Rows),
-        _ => return None,
-    })
+// The kind that the list has of that name.
+fn named<T: Copy>(name: &str, kinds: &[(&str, T)]) -> Option<T> {
+    for (known, kind) in kinds {
+        if *known == name {
+            return Some(*kind);
+        }
+    }
+    None
 }
 
-fn of_analysis(name: &str) -> Option<AnalysisKind> {
-    Some(match name {
-        "paths" => AnalysisKind::Paths,
-        "optimized paths" => AnalysisKind::OptimizedPaths,
-        "size" => AnalysisKind::Size,
-        "sizes" => AnalysisKind::Sizes,
-        "heights" => AnalysisKind::Heights,
-        _ => return None,
-    })
-}
+const SOURCE: &[(&str, SourceKind)] = &[
+    ("text", SourceKind::Text),
+    ("text length", SourceKind::TextLength),
+    ("tree text", SourceKind::TreeText),
+    ("tree text length", SourceKind::TreeTextLength),
+    ("type", SourceKind::Type),
+    ("built", SourceKind::Built),
+    ("built bound", SourceKind::BuiltBound),
+    ("depth", SourceKind::Depth),
+    ("any query", SourceKind::AnyQuery),
+    ("planned", SourceKind::Planned),
+    ("planned paths", SourceKind::PlannedPaths),
+    ("planned split", SourceKind::PlannedSplit),
+    ("scan", SourceKind::Scan),
+    ("selected", SourceKind::Selected),
+];
 
-fn of_fields(name: &str) -> Option<FieldsKind> {
-    Some(match name {
-        "fields" => FieldsKind::Fields,
-        "own fields" => FieldsKind::OwnFields,
-        "own annotations" => FieldsKind::OwnAnnotations,
-        "annotations" => FieldsKind::Annotations,
-        "covers" => FieldsKind::Covers,
-        "split" => FieldsKind::Split(Told::Text),
-        "split rows" => FieldsKind::Split(Told::Rows),
-        "replaced" => FieldsKind::Replaced(Told::Text),
-        "replaced rows" => FieldsKind::Replaced(Told::Rows),
-        _ => return None,
-    })
-}
+const BOUND: &[(&str, BoundKind)] = &[
+    ("source", BoundKind::Source),
+    ("rows", BoundKind::Rows),
+    ("pruned", BoundKind::Pruned),
+];
 
-fn of_two(name: &str) -> Option<PairKind> {
-    Some(match name {
-        "passes" => PairKind::Passes,
-        "query" => PairKind::Query,
-        "query type" => PairKind::QueryType,
-        "scan over" => PairKind::ScanOver,
-        "partition" => PairKind::Partition,
-        "replaced by" => PairKind::ReplacedBy,
-        "equal" => PairKind::Equal,
-        "fused as" => PairKind::FusedAs,
-        _ => return None,
-    })
-}
+const REWRITTEN: &[(&str, RewrittenKind)] = &[
+    ("validity", RewrittenKind::Validity(Told::Text)),
+    ("validity rows", RewrittenKind::Validity(Told::Rows)),
+    ("optimized", RewrittenKind::Optimized(Told::Text)),
+    ("optimized rows", RewrittenKind::Optimized(Told::Rows)),
+    ("optimized or none", RewrittenKind::OptimizedOrNone),
+    ("optimized at root", RewrittenKind::OptimizedAtRoot),
+    ("by branches", RewrittenKind::ByBranches(Told::Text)),
+    ("by branches rows", RewrittenKind::ByBranches(Told::Rows)),
+    ("by branches or none", RewrittenKind::ByBranchesOrNone),
+    ("folded", RewrittenKind::Folded(Told::Text)),
+    ("folded rows", RewrittenKind::Folded(Told::Rows)),
+    ("folded or none", RewrittenKind::FoldedOrNone),
+    ("fused", RewrittenKind::Fused(Told::Text)),
+    ("fused rows", RewrittenKind::Fused(Told::Rows)),
+];
 
-fn of_words(name: &str) -> Option<WordsKind> {
-    Some(match name {
-        "like" => WordsKind::Like,
-        "error" => WordsKind::Error,
-        "function" => WordsKind::Function,
-        "child names" => WordsKind::ChildNames,
-        "node type" => WordsKind::NodeType,
-        "kept" => WordsKind::Kept,
-        "swapped" => WordsKind::Swapped,
-        "type text" => WordsKind::TypeText,
-        "parse" => WordsKind::Parse,
-        "parsed type" => WordsKind::ParsedType,
-        "parsed scalar" => WordsKind::ParsedScalar,
-        "places" => WordsKind::Places,
-        "parse over" => WordsKind::ParseOver,
-        "union" => WordsKind::Union,
-        "scalar" => WordsKind::Scalar,
-        "column" => WordsKind::Column,
-        "joined" => WordsKind::Joined,
-        "path set" => WordsKind::PathSet,
-        "read" => WordsKind::Read,
-        "reader" => WordsKind::Reader,
-        "statistics of" => WordsKind::StatisticsOf,
-        "first match" => WordsKind::FirstMatch,
-        "collected" => WordsKind::Collected(CollectKind::Text),
-        "collected bound" => WordsKind::Collected(CollectKind::Bound),
-        "collected depth" => WordsKind::Collected(CollectKind::Depth),
-        "by chance" => WordsKind::ByChance,
-        "texts by chance" => WordsKind::TextsByChance,
-        "peeled text" => WordsKind::PeeledText,
-        _ => return None,
-    })
-}
+const ANALYSIS: &[(&str, AnalysisKind)] = &[
+    ("paths", AnalysisKind::Paths),
+    ("optimized paths", AnalysisKind::OptimizedPaths),
+    ("size", AnalysisKind::Size),
+    ("sizes", AnalysisKind::Sizes),
+    ("heights", AnalysisKind::Heights),
+];
+
+const FIELDS: &[(&str, FieldsKind)] = &[
+    ("fields", FieldsKind::Fields),
+    ("own fields", FieldsKind::OwnFields),
+    ("own annotations", FieldsKind::OwnAnnotations),
+    ("annotations", FieldsKind::Annotations),
+    ("covers", FieldsKind::Covers),
+    ("split", FieldsKind::Split(Told::Text)),
+    ("split rows", FieldsKind::Split(Told::Rows)),
+    ("replaced", FieldsKind::Replaced(Told::Text)),
+    ("replaced rows", FieldsKind::Replaced(Told::Rows)),
+];
+
+const PAIRS: &[(&str, PairKind)] = &[
+    ("passes", PairKind::Passes),
+    ("query", PairKind::Query),
+    ("query type", PairKind::QueryType),
+    ("scan over", PairKind::ScanOver),
+    ("partition", PairKind::Partition),
+    ("replaced by", PairKind::ReplacedBy),
+    ("equal", PairKind::Equal),
+    ("fused as", PairKind::FusedAs),
+];
+
+const WORDS: &[(&str, WordsKind)] = &[
+    ("like", WordsKind::Like),
+    ("error", WordsKind::Error),
+    ("function", WordsKind::Function),
+    ("child names", WordsKind::ChildNames),
+    ("node type", WordsKind::NodeType),
+    ("kept", WordsKind::Kept),
+    ("swapped", WordsKind::Swapped),
+    ("type text", WordsKind::TypeText),
+    ("parse", WordsKind::Parse),
+    ("parsed type", WordsKind::ParsedType),
+    ("parsed scalar", WordsKind::ParsedScalar),
+    ("places", WordsKind::Places),
+    ("parse over", WordsKind::ParseOver),
+    ("union", WordsKind::Union),
+    ("scalar", WordsKind::Scalar),
+    ("column", WordsKind::Column),
+    ("joined", WordsKind::Joined),
+    ("path set", WordsKind::PathSet),
+    ("read", WordsKind::Read),
+    ("reader", WordsKind::Reader),
+    ("statistics of", WordsKind::StatisticsOf),
+    ("first match", WordsKind::FirstMatch),
+    ("collected", WordsKind::Collected(CollectKind::Text)),
+    ("collected bound", WordsKind::Collected(CollectKind::Bound)),
+    ("collected depth", WordsKind::Collected(CollectKind::Depth)),
+    ("by chance", WordsKind::ByChance),
+    ("texts by chance", WordsKind::TextsByChance),
+    ("peeled text", WordsKind::PeeledText),
+];
