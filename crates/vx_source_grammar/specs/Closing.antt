@@ -1,5 +1,5 @@
 -- What closes a bracket, or goes on in it.
-use Rattle.std.specs.Prelude.{ℕ, ◌/◌, ◌%◌, ◌^◌, ◌==◌, true, false, List, [], ◌∷◌, ◌++◌, length, Option, Some, None, Ok, Err, nat_lt}
+use Rattle.std.specs.Prelude.{ℕ, ◌/◌, ◌%◌, ◌^◌, ◌==◌, Bool, true, false, List, [], ◌∷◌, ◌++◌, length, Option, Some, None, Ok, Err, nat_lt}
 use Rattle.vx_value.specs.Types.{Name}
 use Rattle.vx_fn.specs.Functions.{Function, case_when, arity_of}
 use Rattle.vx_tree.specs.Trees.{Tree}
@@ -35,9 +35,15 @@ member_ends fs r reading e es outside (sign Comma) = goes (in_members reading e 
 member_ends fs r reading e es outside (sign CloseParen) = when_read (stands_loosely fs outside) (among reading e outside es)
 member_ends fs r reading e es outside x = refused x CommaOrCloseParen
 
--- what follows a child of a call
+-- whether a call takes another child behind so many
+abbrev pub takes_more : Callee → ℕ → Bool
+takes_more (any_of f) n = true
+takes_more (own_of f) n = nat_lt n (arity_of f)
+takes_more if_of n = nat_lt n 3
+
+-- what follows a child of a call: a comma where the call takes another one, and the bracket
 abbrev pub child_ends : List Frame → ℕ → Callee → List Tree → ℕ → Lexeme → ExpressionAnswer
-child_ends fs r callee es outside (sign Comma) = goes (in_call callee es outside ∷ fs) operand_due r
+child_ends fs r callee es outside (sign Comma) = elim (takes_more callee (length es)) [ true ↦ goes (in_call callee es outside ∷ fs) operand_due r | false ↦ Err Arity ]
 child_ends fs r callee es outside (sign CloseParen) = called fs outside callee es
 child_ends fs r callee es outside x = refused x CommaOrCloseParen
 

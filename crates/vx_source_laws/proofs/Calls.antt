@@ -2,6 +2,7 @@
 use Rattle.std.proofs.Common.{◌≡◌, ℕ, zero, suc, ◌<◌, ◌≤◌, true, List, [], ◌∷◌, ◌++◌, length, Some, Ok, refl, sym, ap, ◌∙◌, append_assoc, arith}
 use Rattle.std.specs.Prelude.{codes, ◌==◌}
 use Rattle.std.proofs.lemmas.Bool.{eq-eqb}
+use Rattle.std.proofs.lemmas.Bool.Decides.{nat_tests}
 use Rattle.vx_dtype.specs.Texts.{with_commas}
 use Rattle.vx_value.specs.Types.{Name}
 use Rattle.vx_fn.specs.Functions.{Function, fill_null, zip, logical_not, is_null, is_not_null, mask, starts_with, byte_length, list_contains, arity_of}
@@ -20,7 +21,7 @@ use Rattle.vx_source_grammar.specs.Keywords.{beside}
 use Rattle.vx_source_grammar.specs.OptionReading.{plain_functions}
 use Rattle.vx_source_grammar.specs.States.{own_of, Frame, in_call, first_child, tight, at_word, at_vortex, at_id}
 use Rattle.vx_source_laws.specs.Nesting.{nestings}
-use Rattle.vx_source_laws.proofs.Children.{children_again}
+use Rattle.vx_source_laws.proofs.Children.{TakesUpTo, children_again}
 use Rattle.vx_source_laws.proofs.Heights.{heights_below}
 use Rattle.vx_source_laws.proofs.Owns.{IsOwnAgain}
 use Rattle.vx_source_laws.proofs.Signs.{first_dot}
@@ -35,10 +36,14 @@ called_is f es fs outside n h =
     let below = heights_below es in
     yes (arity_of f == length (listed es)) _ _ (eq-eqb (arity_of f) (length (listed es)) (n ∙ sym (length-listed es))) ∙ node_is fs f es outside (omega arith)
 
+-- a function takes a comma behind each child but its last
+own_takes : (f : Function) (n : ℕ) → arity_of f ≡ n → TakesUpTo (own_of f) n
+own_takes f n p before l = grind (arith, nat_tests)
+
 -- the children behind a function's name and its bracket
 own_children : (f : Function) (es : Trees) (fs : List Frame) (r : ℕ) (rest : List ℕ) → AreAgain es → arity_of f ≡ count_of es → nestings es ≤ r
     → Goes (at (in_call (own_of f) [] (suc r) ∷ fs) first_child r) (with_commas (sources es) ++ 41 ∷ rest) (at fs (tight (call f es)) (suc r)) rest
-own_children f es fs r rest k n h = children_again es (own_of f) fs r _ rest k h (called_is f es fs (suc r) n (omega arith))
+own_children f es fs r rest k n h = children_again es (own_of f) fs r _ rest k h (own_takes f (count_of es) n) (called_is f es fs (suc r) n (omega arith))
 
 -- a function without options, behind `vortex.`
 plain_again : (f : Function) (b : Name) (es : Trees) (fs : List Frame) (r : ℕ) (rest : List ℕ) → is_plain b ≡ true → beside plain_functions b ≡ Some f → AreAgain es → arity_of f ≡ count_of es → nestings es < r

@@ -122,6 +122,6 @@ full_again f es fs (suc r) rest u k h =
           (then expression_step (options_collected fs (suc r) b [] r options.collected)
           (leads {t = at fs (children_due f) (suc r)} (first_close_bracket (40 ∷ children)) (ap (when_read (λ g. goes fs (children_due g) (suc r))) options.read)
           (leads {t = at (in_call (any_of f) [] (suc r) ∷ fs) first_child r} (first_open_paren children) refl
-          (children_again es (any_of f) fs r _ rest k (omega arith) (node_is fs f es (suc r) (omega arith))))))));
+          (children_again es (any_of f) fs r _ rest k (omega arith) (λ before l. refl) (node_is fs f es (suc r) (omega arith))))))));
       is_behind = λ x p. refl;
     })

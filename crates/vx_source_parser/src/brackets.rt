@@ -52,7 +52,18 @@ pub fn called(
     }
 }
 
-/// What follows a child of a call.
+// Whether the call takes another child behind so many.
+fn takes_more(callee: &Callee, children: usize) -> bool
+    ensures { result ≡ grammar.takes_more (callee_of callee.now) children }
+{
+    match callee {
+        Callee::Any(_) => true,
+        Callee::Own(function) => children < function.arity(),
+        Callee::If => children < 3,
+    }
+}
+
+/// What follows a child of a call: a comma, where the call takes another one, or the bracket.
 pub(crate) fn after_child(
     context: Context,
     frames: Vec<Frame>,
@@ -64,7 +75,11 @@ pub(crate) fn after_child(
 {
     match &context.found.token {
         Token::Sign(Sign::Comma) => {
-            Ok(pending(frames, Frame::Call(callee, children, bracket), context.room)?)
+            if takes_more(&callee, children.len()) {
+                Ok(pending(frames, Frame::Call(callee, children, bracket), context.room)?)
+            } else {
+                Err(expected(context.found, Expected::Arity))
+            }
         }
         Token::Sign(Sign::CloseParen) => {
             let Bracket { start, room } = bracket;
