@@ -12,8 +12,7 @@ use vx_expr::prelude::*;
 
 /// Three texts, of which the second one is null.
 fn fruits(alloc: Global) -> VortexResult<Array> {
-    let valid = Bits::from_bools(alloc, &[true, false, true])?;
-    let validity = Validity::Rows(BitPart::new(alloc, valid)?);
+    let validity = all_but_the_second(alloc)?;
     texts(alloc, &["pear", "plum", "fig"], Some(validity))
 }
 
@@ -36,64 +35,55 @@ fn arrays_one_after_another_are_shown(rt: HostRuntime) -> VortexResult<()> {
     Ok(())
 }
 
-/// Three days, of which the second one is null.
-fn some_days(alloc: Global) -> VortexResult<Array> {
+/// The rows of the array, twice, and its type.
+fn twice(alloc: Global, array: &Array) -> VortexResult<String> {
+    let dtype = array.dtype();
+    let all = concat(alloc, dtype, &[array.clone()?, array.clone()?])?;
+    Ok(format!(in alloc; "{all} of {dtype}")?)
+}
+
+/// Of three rows, all but the second one.
+fn all_but_the_second(alloc: Global) -> VortexResult<Validity> {
     let valid = Bits::from_bools(alloc, &[true, false, true])?;
-    let validity = Validity::Rows(BitPart::new(alloc, valid)?);
-    days(alloc, vec![in alloc; 19753i32, 0, -1]?, Some(validity))
+    Ok(Validity::Rows(BitPart::new(alloc, valid)?))
 }
 
 #[test]
-fn days_one_after_another_are_shown(rt: HostRuntime) -> VortexResult<()> {
+fn days_and_instants_are_shown(rt: HostRuntime) -> VortexResult<()> {
     let alloc = rt.alloc();
-    let first = some_days(alloc)?;
-    let dtype = first.dtype().clone()?;
-    let all = concat(
-        alloc,
-        &dtype,
-        &[first, some_days(alloc)?, some_days(alloc)?],
-    )?;
-    let page = format!(in alloc; "{all}")?;
+    let validity = all_but_the_second(alloc)?;
+    let some_days = days(alloc, vec![in alloc; 19753i32, 0, -1]?, Some(validity))?;
     assert_eq!(rt;
-        page.as_str(),
-        "[2024-01-31, null, 1969-12-31, 2024-01-31, null, 1969-12-31, 2024-01-31, null, 1969-12-31]"
+        twice(alloc, &some_days)?.as_str(),
+        "[2024-01-31, null, 1969-12-31, 2024-01-31, null, 1969-12-31] of date?"
     );
-    Ok(())
-}
-
-#[test]
-fn instants_are_shown(rt: HostRuntime) -> VortexResult<()> {
-    let alloc = rt.alloc();
     let seconds = TimestampType {
         unit: TimeUnit::Seconds,
         zone: None,
     };
     let found = instants(alloc, seconds, vec![in alloc; -1i64, 4294967296]?, None)?;
-    let page = format!(in alloc; "{found}")?;
-    assert_eq!(rt; page.as_str(), "[1969-12-31T23:59:59, 2106-02-07T06:28:16]");
+    assert_eq!(rt;
+        twice(alloc, &found)?.as_str(),
+        "[1969-12-31T23:59:59, 2106-02-07T06:28:16, 1969-12-31T23:59:59, 2106-02-07T06:28:16] of timestamp(s)"
+    );
     Ok(())
 }
 
 #[test]
-fn floats_one_after_another_are_shown(rt: HostRuntime) -> VortexResult<()> {
+fn floats_are_shown(rt: HostRuntime) -> VortexResult<()> {
     let alloc = rt.alloc();
     let nan = f64_from_bits_with_nan(0xfff0_0000_0000_0001);
-    let first = floats(alloc, vec![in alloc; 9.99f64, -0.0, nan]?, None)?;
-    let more = floats(alloc, vec![in alloc; 5e-1f64]?, None)?;
-    let dtype = first.dtype().clone()?;
-    let page = format!(in alloc; "{} of {dtype}", concat(alloc, &dtype, &[first, more])?)?;
-    assert_eq!(rt; page.as_str(), "[9.99f64, -0.0f64, nanf64, 0.5f64] of f64");
-    Ok(())
-}
-
-#[test]
-fn floats_of_32_bits_are_shown(rt: HostRuntime) -> VortexResult<()> {
-    let alloc = rt.alloc();
-    let valid = Bits::from_bools(alloc, &[true, false])?;
-    let validity = Validity::Rows(BitPart::new(alloc, valid)?);
-    let found = floats(alloc, vec![in alloc; 0.1f32, 0.2]?, Some(validity))?;
-    let page = format!(in alloc; "{found} of {}", found.dtype())?;
-    assert_eq!(rt; page.as_str(), "[0.1f32, null] of f32?");
+    let doubles = floats(alloc, vec![in alloc; 9.99f64, -0.0, nan]?, None)?;
+    assert_eq!(rt;
+        twice(alloc, &doubles)?.as_str(),
+        "[9.99f64, -0.0f64, nanf64, 9.99f64, -0.0f64, nanf64] of f64"
+    );
+    let validity = all_but_the_second(alloc)?;
+    let singles = floats(alloc, vec![in alloc; 0.1f32, 0.2, 0.3]?, Some(validity))?;
+    assert_eq!(rt;
+        twice(alloc, &singles)?.as_str(),
+        "[0.1f32, null, 0.3f32, 0.1f32, null, 0.3f32] of f32?"
+    );
     Ok(())
 }
 
