@@ -177,7 +177,7 @@ fn seen_texts<R: RecordReader + Drop>(
 
 // The texts of which the first number is that one, if there is one, and the word beside them.
 fn seen(number: Option<String>, word: Option<String>) -> Option<SeenTexts>
-    ensures { IfSome result (λ texts. number.entry ≡ Some texts.number) }
+    ensures { IfSome result (λ texts. number ≡ Some texts.number) }
 {
     Some(SeenTexts {
         number: number?,
