@@ -18,7 +18,7 @@ pub rows_error : {R : Type 0} (leaves : R → List Reading → Type 0) (text sch
     → ReadsAs text s (tree_in placed) → ReadsType schema s → IsMeantUntil leaves s (tree_in placed) error before old new → IsToldAt placed s error → IsRowsError text schema error
 rows_error leaves text schema placed s (Query c) before old new reads typed until place = told text schema placed s c reads typed until.0 place
 rows_error leaves text schema placed s (NotBool t) before old new reads typed until place = absurd until
-rows_error leaves text schema placed s (Records (Fault f) span) before old new reads typed (b, bound, mid, done, rs, read, wrote, fault) place = (placed, s, reads, typed, (b, rs, bound, fault, place))
+rows_error leaves text schema placed s (Records (Fault f) span) before old new reads typed (b, bound, (mid, done, rs, read, wrote, fault)) place = (placed, s, reads, typed, (b, rs, bound, fault, place))
 rows_error leaves text schema placed s (Records OutOfMemory span) before old new reads typed until place = tt
 rows_error leaves text schema placed s (Records (Data e) span) before old new reads typed until place = tt
 rows_error leaves text schema placed s (Records (Write e) span) before old new reads typed until place = tt

@@ -1,5 +1,5 @@
 -- As many rows are selected, or not, as the batch has.
-use Rattle.std.proofs.Common.{◌≡◌, ℕ, List, length, map, Result, Ok, Err, Option, Some, None, sym, ap, ◌∙◌}
+use Rattle.std.proofs.Common.{◌≡◌, List, length, map, Ok, Err, Option, Some, None, ap, ◌∙◌}
 use Rattle.std.specs.Prelude.{Bool}
 use Rattle.std.proofs.lemmas.List.{length-map}
 use Rattle.vx_dtype.specs.declared.error.VortexError.{VortexError}

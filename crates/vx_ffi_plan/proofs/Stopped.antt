@@ -1,5 +1,5 @@
 -- What stops calls over a batch.
-use Rattle.std.proofs.Common.{◌≡◌, ◌≢◌, ◌⊎◌, inl, inr, ℕ, List, Ok, Err, subst}
+use Rattle.std.proofs.Common.{◌≡◌, ◌≢◌, ◌⊎◌, inl, inr, ℕ, List, Err, subst}
 use Rattle.vx_value.specs.Types.{LogicalType}
 use Rattle.vx_data_buffers.specs.declared.error.BufferError.{BufferError}
 use Rattle.vx_data_buffers.specs.declared.error.BufferError.TheVariants.{OutOfMemory}

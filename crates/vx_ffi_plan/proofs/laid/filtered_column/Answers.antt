@@ -1,4 +1,4 @@
-use Rattle.std.proofs.Common.{◌≡◌, Ok, length, sym, ap, ◌∙◌}
+use Rattle.std.proofs.Common.{Ok, length, sym, ap, ◌∙◌}
 use Rattle.vx_data_buffers.specs.Bytes.{bytes_in}
 use Rattle.vx_ffi_plan.specs.Kept.{planned_tree}
 use Rattle.vx_ffi_plan.proofs.Filtered.{filtered}

@@ -1,4 +1,4 @@
-use Rattle.std.proofs.Common.{◌∙◌, ◌<◌, Bool, false, length, rules, subst, sym}
+use Rattle.std.proofs.Common.{◌∙◌, ◌<◌, Bool, false, rules, subst, sym}
 use Rattle.std.specs.Prelude.{if◌then◌else◌}
 use Rattle.std.proofs.lemmas.List.{get_or-map, length-map}
 use Rattle.vx_array_loops.proofs.Filled.{filled_as}
