@@ -106,7 +106,7 @@ IsUnreadQuery text schema (UnreadSchema at expected) = IsReadUpTo text schema at
 IsUnreadQuery text schema (Unfit literal) = IsRefusedOverSchema text schema (Unfit literal)
 IsUnreadQuery text schema (Refused span refusal remedy) = ⊥
 
--- the texts are read as an expression, with the bytes of its nodes, and a type, and so much holds of these
+-- the texts are read as an expression and a type, and so much holds of these, with some places of the expression's nodes
 abbrev pub ReadsWhere : List ℕ → List ℕ → (Placed → LogicalType → Type 0) → Type 0
 ReadsWhere text schema P = (placed : Placed) × (s : LogicalType) × ReadsAs text s (tree_in placed) × ReadsType schema s × P placed s
 
@@ -123,7 +123,7 @@ IsRefusal e s (UnreadSchema at expected) = ⊥
 IsRefusal e s (Unfit literal) = ⊥
 
 -- the error is what stops reading the text, or else the schema, or else the text over rows of its type, or the first refusal of
--- what they are read as, at the bytes that the refused node was read from, or want of memory
+-- what they are read as, at the bytes that some places of its nodes give the refused one, or want of memory
 abbrev pub IsCommandError : List ℕ → List ℕ → CommandError → Type 0
 IsCommandError text schema OutOfMemory = Unit {0}
 IsCommandError text schema (UnreadExpression at expected) = IsUnreadQuery text schema (UnreadExpression at expected)

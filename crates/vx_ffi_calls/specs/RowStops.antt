@@ -47,7 +47,7 @@ TellsRows (Query c) expression schema stop = Tells c expression schema stop
 TellsRows (NotBool t) expression schema stop = (stop.status ≡ Refused) × IsPlaceIn Expression expression 0 (length expression) stop.place
 TellsRows (OfRecords error span) expression schema stop = (stop.status ≡ error_status error) × IsErrorPlace error span expression stop.place
 
--- the expression, bound to the schema's type, faults so on some records, and the bytes are those of the node that faults
+-- the expression, bound to the schema's type, faults so on some records, and the bytes are those that some places of its nodes give the one that faults
 abbrev pub FaultsOn : List ℕ → List ℕ → RecordsError → Span → Type 0
 FaultsOn expression schema (Fault f) span = ReadsWhere expression schema (λ placed s. (b : BoundTree) × (rs : List Record) × IsBoundTo (tree_of placed.expression) s b × IsFaultOn b rs f × (span ≡ span_at f.path.items placed.places))
 FaultsOn expression schema NoRoom span = Unit {0}
